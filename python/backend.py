@@ -21,10 +21,17 @@ HERE = Path(__file__).resolve().parent
 PACKAGE = HERE / "src" / "fastbloom"
 LIBRARY = "libfastbloom_c.so.0"
 # What is in the sources by themselves, and the file that tells that they are.
-SOURCES = ("pyproject.toml", "backend.py", "README.md", "src/fastbloom/*.py",
-           "src/fastbloom/py.typed", "tests/*.py")
+SOURCES = (
+    "pyproject.toml",
+    "backend.py",
+    "README.md",
+    "src/fastbloom/*.py",
+    "src/fastbloom/py.typed",
+    "tests/*.py",
+)
 TOLD = "PKG-INFO"
-# The oldest time that a file in a wheel may have. One of its own would make each wheel another file.
+SETTINGS = {"library", "platform"}
+# The oldest time that a file in a wheel may have. With one of its own each wheel would differ.
 LONG_AGO = 315532800
 
 
@@ -43,9 +50,24 @@ def version():
 
 def notices():
     """The licence and what is owed to others, which each file that is built has."""
+    if not (HERE / TOLD).exists() and not (HERE.parent / "LICENSE").exists():
+        raise SystemExit(
+            "this is a copy of the folder, without the repository around it. pip below 21.3 makes "
+            "one: take a later pip, or give `--use-feature=in-tree-build` to one from 21.1 on"
+        )
     found = {name: HERE / name for name in ("LICENSE", "NOTICE")}
-    return {name: (own if own.exists() else HERE.parent / name).read_bytes()
-            for name, own in found.items()}
+    return {
+        name: (own if own.exists() else HERE.parent / name).read_bytes()
+        for name, own in found.items()
+    }
+
+
+def check_settings(settings):
+    """Refuses settings that aren't known, and another library than none."""
+    for name in sorted({*(settings or {})} - SETTINGS):
+        raise SystemExit(f"there is no setting {name}: there are {', '.join(sorted(SETTINGS))}")
+    if (settings or {}).get("library", "none") != "none":
+        raise SystemExit("the setting library is none: another one is named in FASTBLOOM_LIB")
 
 
 def library_file(settings):
@@ -59,8 +81,10 @@ def library_file(settings):
     if file.is_dir():
         file = file / LIBRARY
     if not file.is_file():
-        raise SystemExit(f"there is no {file}: run bin/build-c first, or name the library in "
-                         "FASTBLOOM_LIB, or install with --config-settings library=none")
+        raise SystemExit(
+            f"there is no {file}: run bin/build-c first, or name the library in "
+            "FASTBLOOM_LIB, or install with --config-settings library=none"
+        )
     return file
 
 
@@ -70,16 +94,20 @@ def keywords():
     for name, told in (("keywords", "Keywords"), ("classifiers", "Classifier")):
         listed = re.search(rf"^{name} = \[(.*?)\]$", text, re.MULTILINE | re.DOTALL).group(1)
         values = re.findall('"(.*?)"', listed)
-        yield from [(told, ",".join(values))] if name == "keywords" else [(told, it) for it in values]
+        yield from [(told, ",".join(values))] if name == "keywords" else [
+            (told, it) for it in values
+        ]
 
 
 def metadata():
     lists = "".join(f"{name}: {value}\n" for name, value in keywords())
-    return (f"Metadata-Version: 2.1\nName: {project('name')}\nVersion: {version()}\n"
-            f"Summary: {project('description')}\nLicense: {project('license')}\n{lists}"
-            f"Requires-Python: {project('requires-python')}\n"
-            "Description-Content-Type: text/markdown\n\n"
-            + (HERE / project("readme")).read_text(encoding="utf-8")).encode()
+    return (
+        f"Metadata-Version: 2.1\nName: {project('name')}\nVersion: {version()}\n"
+        f"Summary: {project('description')}\nLicense: {project('license')}\n{lists}"
+        f"Requires-Python: {project('requires-python')}\n"
+        "Description-Content-Type: text/markdown\n\n"
+        + (HERE / project("readme")).read_text(encoding="utf-8")
+    ).encode()
 
 
 def record(files, name):
@@ -96,8 +124,9 @@ def write_wheel(folder, files, tag):
     info = f"fastbloom-{version()}.dist-info"
     pure = "true" if tag.endswith("any") else "false"
     files[f"{info}/METADATA"] = metadata()
-    files[f"{info}/WHEEL"] = (f"Wheel-Version: 1.0\nGenerator: backend.py\n"
-                              f"Root-Is-Purelib: {pure}\nTag: {tag}\n").encode()
+    files[f"{info}/WHEEL"] = (
+        f"Wheel-Version: 1.0\nGenerator: backend.py\n" f"Root-Is-Purelib: {pure}\nTag: {tag}\n"
+    ).encode()
     files.update({f"{info}/{name}": data for name, data in notices().items()})
     files[f"{info}/RECORD"] = record(files, f"{info}/RECORD")
     name = f"fastbloom-{version()}-{tag}.whl"
@@ -112,8 +141,11 @@ def write_wheel(folder, files, tag):
 
 def build_wheel(wheel_directory, config_settings=None, metadata_directory=None):
     settings = config_settings or {}
-    files = {f"fastbloom/{path.name}": path.read_bytes()
-             for path in sorted([*PACKAGE.glob("*.py"), PACKAGE / "py.typed"])}
+    check_settings(settings)
+    files = {
+        f"fastbloom/{path.name}": path.read_bytes()
+        for path in sorted([*PACKAGE.glob("*.py"), PACKAGE / "py.typed"])
+    }
     tag, library = "py3-none-any", library_file(settings)
     if library:
         files[f"fastbloom/{LIBRARY}"] = library.read_bytes()
@@ -123,14 +155,19 @@ def build_wheel(wheel_directory, config_settings=None, metadata_directory=None):
 
 def build_editable(wheel_directory, config_settings=None, metadata_directory=None):
     """A wheel by which Python reads the modules here. The library is found as elsewhere."""
+    check_settings(config_settings)
     path = f"{PACKAGE.parent}\n".encode()
     return write_wheel(wheel_directory, {"fastbloom.pth": path}, "py3-none-any")
 
 
 def build_sdist(sdist_directory, config_settings=None):
     """The sources by themselves. The library isn't in them: it is proved in the repository."""
-    files = {str(path.relative_to(HERE)): path.read_bytes()
-             for pattern in SOURCES for path in sorted(HERE.glob(pattern))}
+    check_settings(config_settings)
+    files = {
+        str(path.relative_to(HERE)): path.read_bytes()
+        for pattern in SOURCES
+        for path in sorted(HERE.glob(pattern))
+    }
     files.update({**notices(), TOLD: metadata()})
     name = f"fastbloom-{version()}"
     output = io.BytesIO()

@@ -18,12 +18,14 @@ one. Workers need the package fastbloom and this module, which `client.upload_fi
 """
 
 import os
+from uuid import uuid4
 
 from dask import delayed
+from dask.delayed import Delayed
 from dask.sizeof import sizeof
 from distributed import Future
 
-from fastbloom import Filter
+from fastbloom import Filter, SharedFilter
 
 NO_KEY = bytes(16)
 RETRIES = 3  # how often a task that failed is done again
@@ -46,7 +48,7 @@ def build(client, parts, items, rate, key=NO_KEY, retries=RETRIES):
     `key` are those of `Filter`, and are refused at once as there. The future raises PartError for a
     part that can't be read, also after as many retries.
     """
-    Filter(items, rate, key)
+    SharedFilter(items, rate, key)  # which takes no memory until something is added
     parts = _named(parts)
     if not parts:
         raise ValueError("there is no part")
@@ -62,7 +64,7 @@ def unite(client, filters, retries=RETRIES):
 
     It raises ValueError where two of them differ in their size, number of hashes or key.
     """
-    united = _tree([_sent(client, filter) for filter in filters])
+    united = _tree(list(map(_task_of, filters)))
     return client.compute(delayed(united), retries=retries)
 
 
@@ -74,14 +76,14 @@ def ask(client, filter, parts, retries=RETRIES):
     if isinstance(filter, Future):
         client.replicate(filter)
     else:
-        filter = client.scatter(filter, broadcast=True, hash=False)
+        filter = _task_of(filter)
     found = [_found_in(filter, part, name) for name, part in _named(parts)]
     return client.compute(found, retries=retries)
 
 
-def _sent(client, filter):
-    """A future of a filter, which may be one already."""
-    return filter if isinstance(filter, Future) else client.scatter(filter, hash=False)
+def _task_of(filter):
+    """A future of a filter as it is; and a filter as a task, which any worker can do again."""
+    return filter if isinstance(filter, Future) else delayed(filter, pure=False, traverse=False)
 
 
 def _named(parts):
@@ -97,11 +99,22 @@ def _named(parts):
 
 
 def _row(parts, items, rate, key):
-    """The filter of a row of parts, one after the other."""
-    made = _empty(items, rate, key)
-    for name, part in parts:
-        made = _with_part(made, part, name)
-    return made
+    """The filter of a row of parts, one after the other.
+
+    Its graph is one dictionary: by `delayed`, each part would copy that of the parts before it.
+    """
+    row, graphs = uuid4().hex, {}
+    made = f"_empty-{row}"
+    tasks = {made: (Filter, items, rate, key)}
+    for number, (name, part) in enumerate(parts):
+        if isinstance(part, Delayed):
+            graphs[id(part.dask)] = part.dask  # the parts of one collection have one
+            part = part.key
+        before, made = made, f"_with_part-{row}-{number}"
+        tasks[made] = (_with_part, before, part, name)
+    for graph in graphs.values():
+        tasks.update(graph)
+    return Delayed(made, tasks)
 
 
 def _tree(filters):
@@ -110,7 +123,7 @@ def _tree(filters):
         raise ValueError("there is no filter")
     while len(filters) > 1:
         pairs = zip(filters[::2], filters[1::2])
-        filters = [_union(*pair) for pair in pairs] + filters[len(filters) // 2 * 2:]
+        filters = [_union(*pair) for pair in pairs] + filters[len(filters) // 2 * 2 :]
     return filters[0]
 
 
@@ -128,10 +141,8 @@ def _keys_of(part, name):
 
 
 # A task changes none of the filters that it is given, since another may be given them too.
-_empty = delayed(Filter, pure=False)
 
 
-@delayed(pure=False)
 def _with_part(filter, part, name):
     made = filter.copy()
     try:

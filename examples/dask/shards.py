@@ -48,19 +48,35 @@ def number(text):
 
 def arguments():
     parser = argparse.ArgumentParser(prog="shards", description=__doc__.split("\n\n")[0])
-    parser.add_argument("folder", metavar="FOLDER",
-                        help="each file in it is a part of the keys, unless a dot begins its name")
-    parser.add_argument("--items", type=number, required=True, metavar="N",
-                        help="how many keys the filter is for")
-    parser.add_argument("--rate", type=rate, required=True, metavar="A/B",
-                        help="its rate of false positives")
+    parser.add_argument(
+        "folder",
+        metavar="FOLDER",
+        help="each file in it is a part of the keys, unless a dot begins its name",
+    )
+    parser.add_argument(
+        "--items", type=number, required=True, metavar="N", help="how many keys the filter is for"
+    )
+    parser.add_argument(
+        "--rate", type=rate, required=True, metavar="A/B", help="its rate of false positives"
+    )
     parser.add_argument("--scheduler", metavar="ADDRESS", help="of a cluster that runs")
-    parser.add_argument("--workers", type=number, default=os.cpu_count(), metavar="N",
-                        help="how many are started where there is no address (%(default)s)")
-    parser.add_argument("--retries", type=count, default=bloom_dask.RETRIES, metavar="N",
-                        help="how often a part that failed is done again (%(default)s)")
-    parser.add_argument("--out", metavar="FILE",
-                        help="the filter's file, not in FOLDER (FOLDER.bloom)")
+    parser.add_argument(
+        "--workers",
+        type=number,
+        default=os.cpu_count(),
+        metavar="N",
+        help="how many are started where there is no address (%(default)s)",
+    )
+    parser.add_argument(
+        "--retries",
+        type=count,
+        default=bloom_dask.RETRIES,
+        metavar="N",
+        help="how often a part that failed is done again (%(default)s)",
+    )
+    parser.add_argument(
+        "--out", metavar="FILE", help="the filter's file, not in FOLDER (FOLDER.bloom)"
+    )
     return parser.parse_args()
 
 
@@ -68,8 +84,10 @@ def arguments():
 def held():
     """Signals wait for the end of this: a cluster that starts or ends isn't left half-way."""
     came = []
-    handlers = {number: signal.signal(number, lambda number, _: came.append(number))
-                for number in (signal.SIGINT, signal.SIGTERM)}
+    handlers = {
+        number: signal.signal(number, lambda number, _: came.append(number))
+        for number in (signal.SIGINT, signal.SIGTERM)
+    }
     try:
         yield
     finally:
@@ -87,9 +105,13 @@ def own_cluster(workers):
         try:
             with held():
                 cluster = distributed.LocalCluster(
-                    n_workers=workers, threads_per_worker=1, local_directory=folder,
-                    dashboard_address=":0", scheduler_kwargs={"dashboard": False},
-                    silence_logs=logging.CRITICAL)
+                    n_workers=workers,
+                    threads_per_worker=1,
+                    local_directory=folder,
+                    dashboard_address=":0",
+                    scheduler_kwargs={"dashboard": False},
+                    silence_logs=logging.CRITICAL,
+                )
             yield cluster
         finally:
             if cluster:
@@ -128,17 +150,19 @@ def files_of(folder):
 
 def check_out(out, folder):
     """Refuses a file that can't be written, or that a later run would take for a part."""
+    if not os.path.basename(out) or os.path.exists(out) and not os.path.isfile(out):
+        raise ValueError(f"{out!r} is no file")
     place = os.path.realpath(os.path.dirname(os.path.abspath(out)))
     if place == os.path.realpath(folder):
         raise ValueError(f"{out} lies in {folder}, where each file is a part")
-    if not os.access(place, os.W_OK):
+    if not os.path.isdir(place) or not os.access(place, os.W_OK):
         raise PermissionError(f"{out} can't be written")
 
 
 def run(chosen):
     """Builds the filter and writes it."""
     folder = os.path.abspath(chosen.folder)
-    out = chosen.out or folder + ".bloom"
+    out = folder + ".bloom" if chosen.out is None else chosen.out
     files = files_of(folder)
     check_out(out, folder)
     with client_of(chosen) as client:

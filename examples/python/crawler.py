@@ -7,10 +7,9 @@ pages that no earlier one did. One page in a million may be taken for one that w
 
 import contextlib
 import os
-import queue
 import re
 import sys
-import threading
+from concurrent.futures import ThreadPoolExecutor
 from pathlib import Path
 
 from fastbloom import Filter, SharedFilter
@@ -37,40 +36,29 @@ def links_of(folder, page):
     """The pages of the folder to which a page links."""
     try:
         text = (folder / page).read_text(encoding="utf-8")
-    except (OSError, UnicodeDecodeError):  # no page, as a folder is none
+    except (OSError, ValueError):  # no page, as a folder is none, or no name, or no UTF-8
         return []
-    found = (os.path.normpath(os.path.join(os.path.dirname(page), link))
-             for link in re.findall(r'href="([^"#:]+)["#]', text))
+    found = (
+        os.path.normpath(os.path.join(os.path.dirname(page), link))
+        for link in re.findall(r'href="([^"#:]+)["#]', text)
+    )
     return [link for link in found if not link.startswith(("..", "/"))]
 
 
 def crawl(seen, folder, pages):
-    """Visits pages, and gives those that it visited."""
-    waiting, visited = queue.Queue(), []
+    """Visits pages, then those that they link to, and so on, and gives those that it visited."""
 
-    def visit():
-        while True:
-            page = waiting.get()
-            # Of threads that add one page at once, one is told that it is new, and in rare cases
-            # more than one.
-            if page is not None and not seen.add(page):
-                visited.append(page)
-                for link in links_of(folder, page):
-                    waiting.put(link)
-            waiting.task_done()
-            if page is None:
-                return
+    def visit(page):
+        # Of threads that add one page at once, one is told that it is new, and in rare cases more
+        # than one.
+        return None if seen.add(os.fsencode(page)) else links_of(folder, page)
 
-    for page in pages:
-        waiting.put(page)
-    threads = [threading.Thread(target=visit) for _ in range(THREADS)]
-    for thread in threads:
-        thread.start()
-    waiting.join()
-    for _ in threads:
-        waiting.put(None)
-    for thread in threads:
-        thread.join()
+    visited = []
+    with ThreadPoolExecutor(THREADS) as pool:
+        while pages:
+            links = list(pool.map(visit, pages))
+            visited += [page for page, found in zip(pages, links) if found is not None]
+            pages = [link for found in links for link in found or []]
     return visited
 
 

@@ -43,7 +43,8 @@ class Guarded:
     def read_state(self):
         """The token and the version of the schema, as a line."""
         rows = self.db.execute(
-            "SELECT token, schema_version FROM last_change, pragma_schema_version")
+            "SELECT token, schema_version FROM last_change, pragma_schema_version"
+        )
         return ("%s %d\n" % rows.fetchone()).encode()
 
     def renew(self):
@@ -53,7 +54,7 @@ class Guarded:
             state = self.read_state()
             if state == self.state:
                 return
-            count, = self.db.execute("SELECT count(*) FROM store").fetchone()
+            (count,) = self.db.execute("SELECT count(*) FROM store").fetchone()
             made = Filter(max(1000, 2 * count), "1/100", key=os.urandom(16))
             made.update(key for key, in self.db.execute("SELECT key FROM store"))
         self.state, self.filter = state, made

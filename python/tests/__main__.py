@@ -11,6 +11,7 @@ sys.path.insert(0, HERE)
 
 if importlib.util.find_spec("pytest"):
     import pytest
+
     sys.exit(pytest.main(["-q", "-p", "no:cacheprovider", HERE]))
 tests = unittest.defaultTestLoader.discover(HERE)
 sys.exit(not unittest.TextTestRunner(verbosity=1).run(tests).wasSuccessful())

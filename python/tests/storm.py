@@ -115,7 +115,7 @@ def unions_both_ways():
 
     def unite(into, of, items):
         for at in range(0, len(items), 10):
-            into.update(items[at:at + 10])
+            into.update(items[at : at + 10])
             into |= of
 
     at_once(lambda: unite(one, other, ITEMS[::2]), lambda: unite(other, one, ITEMS[1::2]))
@@ -131,8 +131,14 @@ def files_beside_adds():
     return lost(seen)
 
 
-CASES = (adds, updates, adds_beside_unions, adds_beside_intersections, unions_both_ways,
-         files_beside_adds)
+CASES = (
+    adds,
+    updates,
+    adds_beside_unions,
+    adds_beside_intersections,
+    unions_both_ways,
+    files_beside_adds,
+)
 
 if __name__ == "__main__":
     for case in CASES:

@@ -13,7 +13,14 @@ from unittest import mock
 
 import fastbloom
 from fastbloom import (
-    AnyFilter, BlockedFilter, Filter, Mask, Refusal, SharedBlockedFilter, SharedFilter)
+    AnyFilter,
+    BlockedFilter,
+    Filter,
+    Mask,
+    Refusal,
+    SharedBlockedFilter,
+    SharedFilter,
+)
 
 WORD = 2**64
 
@@ -57,11 +64,12 @@ WORKED = bytes.fromhex(
     "66626c6f6f6d0031 0300000000000000 0800000000000000 0001020304050607 08090a0b0c0d0e0f"
     "cb93f2d0c688fbf4 0100000000000000 0000000000000000 0000000000000000 0000000000040000"
     "0000000000000000 0000000000000001 8000021000000000 0000004000000000 0000000000000000"
-    "0000000000000000")
+    "0000000000000000"
+)
 
 
 def changed(file, place, byte):
-    return file[:place] + bytes([byte]) + file[place + 1:]
+    return file[:place] + bytes([byte]) + file[place + 1 :]
 
 
 def refused_files(file):
@@ -142,8 +150,9 @@ class Blocked(unittest.TestCase):
 
     def test_sizes(self):
         seen = small()
-        self.assertEqual((seen.num_words, seen.num_lines, seen.num_bits, seen.num_hashes),
-                         (248, 31, 15872, 9))
+        self.assertEqual(
+            (seen.num_words, seen.num_lines, seen.num_bits, seen.num_hashes), (248, 31, 15872, 9)
+        )
         self.assertEqual(BlockedFilter(10**6, "1/100").num_words, 156048)
         self.assertEqual(ctypes.addressof(ctypes.c_char.from_buffer(seen._view)) % 64, 0)
         self.assertEqual(repr(seen), "<BlockedFilter: 15872 bits, 9 hashes, the zero key>")
@@ -154,8 +163,10 @@ class Blocked(unittest.TestCase):
         self.assertTrue(seen.add(b"crab") and "crab" in seen and "whale" not in seen)
         self.assertTrue(seen.contains_hash(seen.hash("crab")))
         seen.update(["eel", b"prawn"], small("lobster"), iter(()))
-        self.assertEqual(seen.contains_many(["crab", "eel", "prawn", "lobster", "whale"]),
-                         [True, True, True, True, False])
+        self.assertEqual(
+            seen.contains_many(["crab", "eel", "prawn", "lobster", "whale"]),
+            [True, True, True, True, False],
+        )
         hashes = array.array("Q", map(seen.hash, ["crab", "whale", "whale"]))
         self.assertEqual(seen.contains_hashes(hashes), [True, False, False])
         fresh = seen.add_hashes_tell_new(hashes)
@@ -177,8 +188,9 @@ class Blocked(unittest.TestCase):
     def test_two_filters(self):
         one, other = small("crab", "lobster"), small("lobster", "whale")
         self.assertEqual((one | other).contains_many(["crab", "lobster", "whale"]), [True] * 3)
-        self.assertEqual((one & other).contains_many(["crab", "lobster", "whale"]),
-                         [False, True, False])
+        self.assertEqual(
+            (one & other).contains_many(["crab", "lobster", "whale"]), [False, True, False]
+        )
         united = one.copy()
         united |= other
         self.assertEqual(united, one | other)
@@ -317,18 +329,22 @@ class Files(unittest.TestCase):
 
     def test_each_kind_refuses_the_files_of_the_other(self):
         Filter(1000, "1/1000").save(self.path, sealed=False)
-        calls = [lambda: BlockedFilter.from_bytes(self.path.read_bytes()),
-                 lambda: BlockedFilter.load(self.path),
-                 lambda: BlockedFilter.load(self.path, mapped=True),
-                 lambda: SharedBlockedFilter.map(self.path)]
+        calls = [
+            lambda: BlockedFilter.from_bytes(self.path.read_bytes()),
+            lambda: BlockedFilter.load(self.path),
+            lambda: BlockedFilter.load(self.path, mapped=True),
+            lambda: SharedBlockedFilter.map(self.path),
+        ]
         for call in calls:
             with self.assertRaisesRegex(Refusal, "^the file's filter isn't blocked$"):
                 call()
         small("crab").save(self.path, sealed=False)
-        calls = [lambda: Filter.from_bytes(self.path.read_bytes()),
-                 lambda: Filter.load(self.path),
-                 lambda: Filter.load(self.path, mapped=True),
-                 lambda: SharedFilter.map(self.path)]
+        calls = [
+            lambda: Filter.from_bytes(self.path.read_bytes()),
+            lambda: Filter.load(self.path),
+            lambda: Filter.load(self.path, mapped=True),
+            lambda: SharedFilter.map(self.path),
+        ]
         for call in calls:
             with self.assertRaisesRegex(Refusal, "^the file has a blocked filter$"):
                 call()
@@ -368,8 +384,9 @@ class Files(unittest.TestCase):
 class Shared(unittest.TestCase):
     def test_sizes_are_those_of_plain_ones(self):
         seen = SharedBlockedFilter(1000, "1/1000", bytes(range(16)))
-        self.assertEqual((seen.num_words, seen.num_lines, seen.num_bits, seen.num_hashes),
-                         (248, 31, 15872, 9))
+        self.assertEqual(
+            (seen.num_words, seen.num_lines, seen.num_bits, seen.num_hashes), (248, 31, 15872, 9)
+        )
         self.assertEqual((seen._words.words % 64, seen.key), (0, bytes(range(16))))
         self.assertEqual(repr(seen), "<SharedBlockedFilter: 15872 bits, 9 hashes, a key>")
 
@@ -379,8 +396,9 @@ class Shared(unittest.TestCase):
         self.assertTrue(seen.add(b"crab") and "crab" in seen and "whale" not in seen)
         other.add("lobster")
         seen.update(["eel"], other, iter(()))
-        self.assertEqual(seen.contains_many(["crab", "eel", "lobster", "whale"]),
-                         [True, True, True, False])
+        self.assertEqual(
+            seen.contains_many(["crab", "eel", "lobster", "whale"]), [True, True, True, False]
+        )
         self.assertIsInstance(seen, AnyFilter)
         seen |= other
         self.assertEqual(seen.load(), small("crab", "eel", "lobster"))
@@ -415,8 +433,8 @@ class Shared(unittest.TestCase):
         def fill(first):
             seen = SharedBlockedFilter.over(memory, 5)
             for at in range(first, len(hashes), 2000):
-                seen.add_hashes(hashes[at:at + 1000])
-            for value in hashes[first:first + 100]:
+                seen.add_hashes(hashes[at : at + 1000])
+            for value in hashes[first : first + 100]:
                 seen.add_hash(value)
 
         threads = [threading.Thread(target=fill, args=(first,)) for first in (0, 1000, 0, 1000)]

@@ -5,6 +5,7 @@ import os
 import signal
 import socket
 import stat
+import struct
 import subprocess
 import sys
 import tempfile
@@ -16,15 +17,21 @@ import storm
 from fastbloom import BlockedFilter, Filter, Refusal, SharedBlockedFilter, SharedFilter
 
 COUNTING_KEY = bytes(range(16))
+# Entries of access control lists, as the file acl_ea.h of Linux numbers them: a tag, rights, and a
+# number for named ones alone.
+NOBODY = 2**32 - 1
+USER, GROUP, OTHER = 2, 4, 32
+OWNER, MASK = (1, 6, NOBODY), (16, 4, NOBODY)
 # One word, three hashes, and the key bytes 0 to 15, of `crab` and `lobster`: the file of a model,
 # which docs/FILE.md explains.
 WORKED = bytes.fromhex(
     "66626c6f6f6d0031 0300000000000000 0100000000000000 0001020304050607 08090a0b0c0d0e0f"
-    "a81b0ad4ee8d9d5d 0000000000000000 0000000000000000 0014004080008010")
+    "a81b0ad4ee8d9d5d 0000000000000000 0000000000000000 0014004080008010"
+)
 
 
 def changed(file, place, byte):
-    return file[:place] + bytes([byte]) + file[place + 1:]
+    return file[:place] + bytes([byte]) + file[place + 1 :]
 
 
 def refused_files(file):
@@ -35,8 +42,15 @@ def refused_files(file):
         7: [changed(file, 8, 0), changed(file, 12, 1), changed(file, 8, 0)[:16]],
         9: [b"", file[:7], changed(file, 0, 70), changed(changed(file, 6, 1), 7, 50)],
         10: [changed(file, 7, 50), changed(changed(file, 7, 50), 8, 0)[:8]],
-        11: [file[:8], changed(file, 8, 0)[:15], file[:63], file[:64], file[:-1],
-             changed(file, 48, 1)[:60], changed(file, 23, 3)],
+        11: [
+            file[:8],
+            changed(file, 8, 0)[:15],
+            file[:63],
+            file[:64],
+            file[:-1],
+            changed(file, 48, 1)[:60],
+            changed(file, 23, 3),
+        ],
         12: [file + b"\0", changed(file, 63, 1) + b"\0"],
         13: [changed(file, 48, 2), changed(file, 63, 128)],
         17: [changed(file, 48, 1)],
@@ -113,14 +127,20 @@ class Files(unittest.TestCase):
     def test_a_loaded_file_may_be_written_and_cut(self):
         """A process that touches a mapping of a file that was truncated ends by a signal."""
         self.path.write_bytes(WORKED)
-        code = ("import sys; from fastbloom import Filter\n"
-                "seen = Filter.load(sys.argv[1])\n"
-                "with open(sys.argv[1], 'r+b') as file: file.write(bytes(72))\n"
-                "print(seen.contains_many(['crab', 'lobster']))\n"
-                "with open(sys.argv[1], 'wb'): pass\n"
-                "print('crab' in seen, seen.count_ones(), seen.to_bytes().hex())\n")
-        run = subprocess.run([sys.executable, "-c", code, str(self.path)], timeout=60, check=False,
-                             stdout=subprocess.PIPE)
+        code = (
+            "import sys; from fastbloom import Filter\n"
+            "seen = Filter.load(sys.argv[1])\n"
+            "with open(sys.argv[1], 'r+b') as file: file.write(bytes(72))\n"
+            "print(seen.contains_many(['crab', 'lobster']))\n"
+            "with open(sys.argv[1], 'wb'): pass\n"
+            "print('crab' in seen, seen.count_ones(), seen.to_bytes().hex())\n"
+        )
+        run = subprocess.run(
+            [sys.executable, "-c", code, str(self.path)],
+            timeout=60,
+            check=False,
+            stdout=subprocess.PIPE,
+        )
         wanted = f"[True, True]\nTrue 6 {WORKED.hex()}\n"
         self.assertEqual((run.returncode, run.stdout.decode()), (0, wanted))
 
@@ -173,8 +193,126 @@ class Files(unittest.TestCase):
             os.chown(self.path, 12345, 23456)
             seen.save(self.path)
             found = self.path.stat()
-            self.assertEqual((found.st_uid, found.st_gid, stat.S_IMODE(found.st_mode)),
-                             (12345, 23456, 0o666))
+            self.assertEqual(
+                (found.st_uid, found.st_gid, stat.S_IMODE(found.st_mode)), (12345, 23456, 0o666)
+            )
+
+    def lists(self, path, default=False):
+        """The access control list of a file, or the default of a folder."""
+        name = "system.posix_acl_default" if default else "system.posix_acl_access"
+        try:
+            return os.getxattr(path, name)
+        except OSError as error:
+            if error.errno == errno.ENODATA:
+                return None
+            raise
+
+    def set_list(self, path, *entries, default=False):
+        """Gives a file a list, or a folder a default: entries are a tag, rights and a number."""
+        name = "system.posix_acl_default" if default else "system.posix_acl_access"
+        data = struct.pack("<I", 2) + b"".join(struct.pack("<HHI", *entry) for entry in entries)
+        try:
+            os.setxattr(path, name, data)
+        except OSError as error:
+            if error.errno == errno.ENOTSUP:
+                self.skipTest("the file system has no access control lists")
+            raise
+
+    def test_a_file_keeps_its_access_control_list(self):
+        """The user 12345 may read, and the group may not: its bits of the mode are the mask."""
+        seen = Filter.from_bytes(WORKED)
+        seen.save(self.path)
+        self.path.chmod(0o600)
+        self.set_list(
+            self.path, OWNER, (USER, 4, 12345), (GROUP, 0, NOBODY), MASK, (OTHER, 0, NOBODY)
+        )
+        before = self.path.stat().st_mode, self.lists(self.path)
+        self.assertEqual(stat.S_IMODE(before[0]), 0o640)
+        seen.save(self.path)
+        self.assertEqual((self.path.stat().st_mode, self.lists(self.path)), before)
+
+    def test_a_list_that_cannot_be_kept_leaves_the_owner_alone(self):
+        seen = Filter.from_bytes(WORKED)
+        for name in ("setxattr", "fchown"):
+            seen.save(self.path)
+            self.set_list(
+                self.path, OWNER, (USER, 4, 12345), (GROUP, 4, NOBODY), MASK, (OTHER, 4, NOBODY)
+            )
+            with mock.patch.object(os, name, side_effect=PermissionError):
+                seen.save(self.path)
+            self.assertEqual(stat.S_IMODE(self.path.stat().st_mode), 0o600)
+            self.path.unlink()
+
+    def test_the_default_list_of_a_folder_neither_opens_a_file_nor_shuts_it(self):
+        seen = Filter.from_bytes(WORKED)
+        seen.save(self.path)
+        folder = self.folder.name
+        self.set_list(
+            folder,
+            OWNER,
+            (USER, 7, 12345),
+            (GROUP, 0, NOBODY),
+            (MASK[0], 7, NOBODY),
+            (OTHER, 0, NOBODY),
+            default=True,
+        )
+        for mode in (0o640, 0o604, 0o666):
+            self.path.chmod(mode)
+            seen.save(self.path)
+            self.assertEqual(stat.S_IMODE(self.path.stat().st_mode), mode)
+            self.assertIsNone(self.lists(self.path))
+        with mock.patch.object(os, "removexattr", side_effect=PermissionError):
+            seen.save(self.path)
+        self.assertEqual(stat.S_IMODE(self.path.stat().st_mode), 0o600)
+
+    def test_a_group_that_cannot_be_kept_is_among_the_others(self):
+        seen = Filter.from_bytes(WORKED)
+        for mode, wanted in ((0o604, 0o600), (0o664, 0o604), (0o640, 0o600), (0o666, 0o606)):
+            seen.save(self.path)
+            self.path.chmod(mode)
+            with mock.patch.object(os, "fchown", side_effect=PermissionError):
+                seen.save(self.path)
+            self.assertEqual(stat.S_IMODE(self.path.stat().st_mode), wanted)
+
+    def test_a_name_may_have_255_bytes(self):
+        seen = Filter.from_bytes(WORKED)
+        for name in ("a" * 233, "a" * 234, "\u00e9" * 127, "a" * 255):
+            path = Path(self.folder.name) / name
+            for _ in range(2):
+                seen.save(path)
+            self.assertEqual(os.listdir(self.folder.name), [name])
+            self.assertEqual(Filter.load(path), seen)
+            path.unlink()
+
+    def test_a_descriptor_is_no_path(self):
+        with open(os.devnull, "rb") as file:
+            number = file.fileno()
+            for filters in (Filter, BlockedFilter):
+                self.assertRaises(TypeError, filters.load, number)
+                self.assertRaises(TypeError, filters(10, "1/2").save, number)
+            for filters in (SharedFilter, SharedBlockedFilter):
+                self.assertRaises(TypeError, filters.map, number)
+            self.assertEqual(file.read(), b"")
+        for filters in (Filter, BlockedFilter):
+            for number in (True, None, 1.0):
+                self.assertRaises(TypeError, filters.load, number)
+
+    def test_a_file_that_another_process_has_leased_is_waited_for(self):
+        self.path.write_bytes(WORKED)
+        code = (
+            "import fcntl, os, signal, sys\n"
+            "signal.pthread_sigmask(signal.SIG_BLOCK, [signal.SIGIO])\n"
+            "file = os.open(sys.argv[1], os.O_RDONLY)\n"
+            "fcntl.fcntl(file, fcntl.F_SETLEASE, fcntl.F_WRLCK)\n"
+            "print('leased', flush=True)\n"
+            "signal.sigwait([signal.SIGIO])\n"
+            "fcntl.fcntl(file, fcntl.F_SETLEASE, fcntl.F_UNLCK)\n"
+        )
+        words = [sys.executable, "-c", code, str(self.path)]
+        with subprocess.Popen(words, stdout=subprocess.PIPE) as holder:
+            self.assertEqual(holder.stdout.readline(), b"leased\n")
+            self.assertIn("crab", Filter.load(self.path))
+            self.assertEqual(holder.wait(60), 0)
 
     def test_nobody_else_reads_a_secret_file_while_it_is_written(self):
         self.path.write_bytes(WORKED)

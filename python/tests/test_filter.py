@@ -26,8 +26,14 @@ COUNTING_KEY = bytes(range(16))
 # SipHash-1-3 under the key bytes 0 to 15, by the crate siphasher 0.3.10, of the first bytes of this
 # text, by their number.
 TEXT = bytes((3 + 7 * place) % 256 for place in range(17))
-HASHES = {0: 12370263754033579228, 1: 3398045899470988360, 7: 14029210848122290102,
-          8: 6796821499482615526, 15: 6323795259543584655, 17: 12612916429403578116}
+HASHES = {
+    0: 12370263754033579228,
+    1: 3398045899470988360,
+    7: 14029210848122290102,
+    8: 6796821499482615526,
+    15: 6323795259543584655,
+    17: 12612916429403578116,
+}
 
 
 def small(**options):
@@ -109,8 +115,13 @@ class Items(unittest.TestCase):
     def test_nothing_else_is_an_item(self):
         seen = small()
         for item in (5, 10**12, 0, True, 1.5, None, ["crab"], ("crab",), range(3), object()):
-            for call in (seen.add, seen.hash, lambda item: item in seen,
-                         lambda item: seen.update([item]), lambda item: seen.contains_many([item])):
+            for call in (
+                seen.add,
+                seen.hash,
+                lambda item: item in seen,
+                lambda item: seen.update([item]),
+                lambda item: seen.contains_many([item]),
+            ):
                 with self.assertRaises(TypeError):
                     call(item)
         with self.assertRaises(UnicodeEncodeError):
@@ -123,33 +134,59 @@ class Items(unittest.TestCase):
         released.release()
         closed.close()
         seen = small()
-        for item in (ctypes.c_int(5), ctypes.c_char_p(b"crab"), ctypes.py_object("crab"),
-                     (ctypes.c_void_p * 2)(), (ctypes.c_wchar_p * 2)(), released, closed):
-            for call in (seen.add, seen.hash, lambda item: item in seen,
-                         lambda item: seen.update([item]), lambda item: seen.contains_many([item])):
+        for item in (
+            ctypes.c_int(5),
+            ctypes.c_char_p(b"crab"),
+            ctypes.py_object("crab"),
+            (ctypes.c_void_p * 2)(),
+            (ctypes.c_wchar_p * 2)(),
+            released,
+            closed,
+        ):
+            for call in (
+                seen.add,
+                seen.hash,
+                lambda item: item in seen,
+                lambda item: seen.update([item]),
+                lambda item: seen.contains_many([item]),
+            ):
                 with self.assertRaises(TypeError):
                     call(item)
         with self.assertRaises(TypeError) as told:
             seen.add(released)
-        self.assertEqual(str(told.exception), "an item is a str or a bytes-like object, not "
-                         "memoryview: operation forbidden on released memoryview object")
+        self.assertEqual(
+            str(told.exception),
+            "an item is a str or a bytes-like object, not "
+            "memoryview: operation forbidden on released memoryview object",
+        )
         self.assertEqual(seen, small())
 
     @unittest.skipUnless(numpy, "there is no numpy")
     def test_values_of_numpy(self):
         seen = small()
-        for item in (numpy.int64(5), numpy.float32(1), numpy.bool_(True), numpy.array(5),
-                     numpy.datetime64("2026"), numpy.array(["crab"], dtype=object),
-                     numpy.array([(1, "crab")], dtype=[("count", int), ("name", object)]),
-                     numpy.array(["2026"], dtype="M8[D]")):
+        for item in (
+            numpy.int64(5),
+            numpy.float32(1),
+            numpy.bool_(True),
+            numpy.array(5),
+            numpy.datetime64("2026"),
+            numpy.array(["crab"], dtype=object),
+            numpy.array([(1, "crab")], dtype=[("count", int), ("name", object)]),
+            numpy.array(["2026"], dtype="M8[D]"),
+        ):
             for call in (seen.add, lambda item: seen.update([item])):
                 with self.assertRaises(TypeError):
                     call(item)
         self.assertEqual(seen, small())
         # The name of a field isn't a kind of its values.
         record = numpy.array([(1, 2.0)], dtype=[("OPX", "i4"), ("Z", "f8")])
-        for item in (numpy.str_("crab"), numpy.bytes_(b"eel"), numpy.array([1, 2], dtype="i4"),
-                     numpy.array([1j]), record):
+        for item in (
+            numpy.str_("crab"),
+            numpy.bytes_(b"eel"),
+            numpy.array([1, 2], dtype="i4"),
+            numpy.array([1j]),
+            record,
+        ):
             self.assertFalse(seen.add(item))
         raw = b"\x01\0\0\0\x02\0\0\0"
         self.assertEqual(seen.contains_many([b"crab", "eel", raw, record.tobytes()]), [True] * 4)
@@ -232,9 +269,18 @@ class Many(unittest.TestCase):
 
     def test_one_item_is_not_many(self):
         seen = small()
-        for item in ("crab", b"crab", bytearray(b"crab"), memoryview(b"crab"), 5,
-                     array.array("B", b"crab"), array.array("u", "crab"), mmap.mmap(-1, 4),
-                     ctypes.create_string_buffer(b"crab"), ctypes.c_char_p(b"crab")):
+        for item in (
+            "crab",
+            b"crab",
+            bytearray(b"crab"),
+            memoryview(b"crab"),
+            5,
+            array.array("B", b"crab"),
+            array.array("u", "crab"),
+            mmap.mmap(-1, 4),
+            ctypes.create_string_buffer(b"crab"),
+            ctypes.c_char_p(b"crab"),
+        ):
             self.assertRaises(TypeError, seen.update, item)
             self.assertRaises(TypeError, seen.contains_many, item)
         self.assertEqual(seen, small())
@@ -267,28 +313,53 @@ class Sizes(unittest.TestCase):
         for rate, code in ((0, 4), ("0/5", 4), ("1/0", 4)):
             with self.assertRaises(Refusal) as told:
                 Filter(10, rate)
-            self.assertEqual((told.exception.code, str(told.exception)),
-                             (code, "rate with a zero part"))
+            self.assertEqual(
+                (told.exception.code, str(told.exception)), (code, "rate with a zero part")
+            )
         # The last size below 2^64 bits, and the first that isn't.
         for items, code in ((12786308645202655226, 3), (12786308645202655227, 5)):
             with self.assertRaises(Refusal) as told:
                 Filter(items, "1/2")
             self.assertEqual(told.exception.code, code)
         self.assertEqual(str(pickle.loads(pickle.dumps(Refusal(5)))), "size too large")
-        for items, rate in ((-1, "1/2"), (2**64, "1/2"), (10, -0.5), (10, "crab"),
-                            (10, float("nan")), (10, float("inf")), (10, f"1/{2**64}")):
+        for items, rate in (
+            (-1, "1/2"),
+            (2**64, "1/2"),
+            (10, -0.5),
+            (10, "crab"),
+            (10, float("nan")),
+            (10, float("inf")),
+            (10, f"1/{2**64}"),
+        ):
             self.assertRaises(ValueError, Filter, items, rate)
         # A rate is below 1, as those that the programs take. The greatest that is may be any.
-        for rate in (1000, 1, 1.0, "1/1", "5/5", "3/2", 1.5, Decimal("1"), Fraction(7, 7),
-                     f"{2**64 - 1}/{2**64 - 2}"):
+        for rate in (
+            1000,
+            1,
+            1.0,
+            "1/1",
+            "5/5",
+            "3/2",
+            1.5,
+            Decimal("1"),
+            Fraction(7, 7),
+            f"{2**64 - 1}/{2**64 - 2}",
+        ):
             self.assertRaises(ValueError, Filter, 1000, rate)
         self.assertEqual(Filter(1000, f"{2**64 - 2}/{2**64 - 1}").num_bits, 64)
         for items, rate in ((1.5, "1/2"), ("10", "1/2"), (10, None), (10, b"1/2"), (10, (1, 2))):
             self.assertRaises(TypeError, Filter, items, rate)
 
     def test_a_rate_of_many_digits_is_refused_at_once(self):
-        rates = ["1e-99999999", "1E+99999999 ", "0.1e-9999_9999", "1e-00000099999999",
-                 Decimal("1e-99999999"), "0." + "0" * 10**6 + "1", "1/" + "9" * 10**6]
+        rates = [
+            "1e-99999999",
+            "1E+99999999 ",
+            "0.1e-9999_9999",
+            "1e-00000099999999",
+            Decimal("1e-99999999"),
+            "0." + "0" * 10**6 + "1",
+            "1/" + "9" * 10**6,
+        ]
         for rate in rates:
             self.assertRaises(ValueError, Filter, 10, rate)
         wanted = Filter(1000, Fraction(*(0.001).as_integer_ratio()))
@@ -357,8 +428,13 @@ class Sizes(unittest.TestCase):
         for _ in range(1000):
             words, hashes = draw.randint(1, 40), draw.choice((1, 2, 3, 7, 13, 44, 64))
             kept = draw.choice((0, 1, 8, 32, 56, 64))
-            seen = of_words([draw.getrandbits(64) | draw.getrandbits(64) << kept & 2**64 - 1
-                             for _ in range(words)], hashes)
+            seen = of_words(
+                [
+                    draw.getrandbits(64) | draw.getrandbits(64) << kept & 2**64 - 1
+                    for _ in range(words)
+                ],
+                hashes,
+            )
             share = Fraction(seen.count_ones(), 64 * words)
             low, high = seen.exact_false_positive_rate()
             self.assertTrue(low <= share**hashes <= high)
@@ -385,8 +461,13 @@ class Sizes(unittest.TestCase):
 
     def test_an_estimate_is_that_of_the_bits_that_are_on(self):
         # Of 64 bits one is expected to be on after one hash, 1.98 after two, 2.95 after three.
-        for bits, hashes, wanted in ((0, 1, (0, 0)), (1, 1, (1, 1)), (3, 2, (1, 2)),
-                                     (7, 3, (1, 2)), (7, 1, (3, 4))):
+        for bits, hashes, wanted in (
+            (0, 1, (0, 0)),
+            (1, 1, (1, 1)),
+            (3, 2, (1, 2)),
+            (7, 3, (1, 2)),
+            (7, 1, (3, 4)),
+        ):
             self.assertEqual(of_words([bits], hashes).estimate(), wanted)
         full = of_words([2**64 - 1], 1).estimate()
         self.assertEqual((full.low, full.high), (2**64 - 1, None))
@@ -411,9 +492,12 @@ class Sizes(unittest.TestCase):
 
 class Types(unittest.TestCase):
     def test_the_types_of_each_call_are_found(self):
-        calls = [call for cls in (Filter, Refusal, Estimate)
-                 for _, call in inspect.getmembers(cls, inspect.isroutine)
-                 if (getattr(call, "__module__", None) or "").startswith("fastbloom")]
+        calls = [
+            call
+            for cls in (Filter, Refusal, Estimate)
+            for _, call in inspect.getmembers(cls, inspect.isroutine)
+            if (getattr(call, "__module__", None) or "").startswith("fastbloom")
+        ]
         self.assertIn(Filter.add, calls)
         for call in calls:
             typing.get_type_hints(call)
@@ -483,8 +567,11 @@ class Sets(unittest.TestCase):
             self.assertLessEqual(common / all_items, high)
 
     def test_other_filters_are_refused(self):
-        for other, name in ((Filter(10, "1/1000"), "num_words"),
-                            (small(key=COUNTING_KEY), "key"), (self.other_hashes(), "num_hashes")):
+        for other, name in (
+            (Filter(10, "1/1000"), "num_words"),
+            (small(key=COUNTING_KEY), "key"),
+            (self.other_hashes(), "num_hashes"),
+        ):
             before = self.odd.copy()
             for call in ("__or__", "__and__", "__ior__", "__iand__"):
                 with self.assertRaises(ValueError) as told:

@@ -29,16 +29,22 @@ class Library(unittest.TestCase):
         self.addCleanup(self.folder.cleanup)
         self.top = Path(self.folder.name)
         # The package without the library.
-        shutil.copytree(PACKAGE, self.top / "fastbloom",
-                        ignore=shutil.ignore_patterns("*.so*", "__pycache__"))
+        shutil.copytree(
+            PACKAGE, self.top / "fastbloom", ignore=shutil.ignore_patterns("*.so*", "__pycache__")
+        )
 
     def run_import(self, **variables):
         """The last line that an import leaves, with these variables."""
         names = ("FASTBLOOM_LIB", "LD_LIBRARY_PATH", "PYTHONPATH")
         env = {name: value for name, value in os.environ.items() if name not in names}
         env.update(variables, PYTHONPATH=str(self.top), PYTHONDONTWRITEBYTECODE="1")
-        run = subprocess.run([sys.executable, "-c", "import fastbloom; print('imported')"],
-                             stdout=subprocess.PIPE, stderr=subprocess.STDOUT, env=env, timeout=60)
+        run = subprocess.run(
+            [sys.executable, "-c", "import fastbloom; print('imported')"],
+            stdout=subprocess.PIPE,
+            stderr=subprocess.STDOUT,
+            env=env,
+            timeout=60,
+        )
         return run.stdout.decode().strip().splitlines()[-1]
 
     def put_library(self, folder):

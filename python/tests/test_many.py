@@ -9,12 +9,21 @@ import random
 import sys
 import typing
 import unittest
+from fractions import Fraction
 from unittest import mock
 
 import fastbloom
 from fastbloom import (
-    AnyFilter, BlockedFilter, Filter, Mask, RotatingFilter, SharedBlockedFilter, SharedFilter)
+    AnyFilter,
+    BlockedFilter,
+    Filter,
+    Mask,
+    RotatingFilter,
+    SharedBlockedFilter,
+    SharedFilter,
+)
 from fastbloom import _library as library
+from fastbloom._many import words_of
 
 try:
     import numpy
@@ -47,8 +56,10 @@ class Masks(unittest.TestCase):
             self.assertEqual([mask[at] for at in range(count)], values)
             self.assertEqual([mask[-at] for at in range(1, count + 1)], values[::-1])
             self.assertEqual(mask[1:9:2], values[1:9:2])
-            self.assertEqual((mask.count(), mask.count(False), mask.count("crab")),
-                             (sum(values), count - sum(values), 0))
+            self.assertEqual(
+                (mask.count(), mask.count(False), mask.count("crab")),
+                (sum(values), count - sum(values), 0),
+            )
             self.assertEqual(int.from_bytes(mask.bits, "little"), number)
             self.assertEqual(mask.bits.nbytes, (count + 7) // 8)
             self.assertTrue(all(type(value) is bool for value in mask))
@@ -62,16 +73,55 @@ class Masks(unittest.TestCase):
         mask = Mask(bytearray(b"\x05"), 3)
         for other in ([True, False, True], (True, False, True), Mask(bytearray(b"\x05"), 3)):
             self.assertEqual(mask, other)
-        for other in ([True, False], [True, True, True], Mask(bytearray(b"\x05"), 4),
-                      Mask(bytearray(b"\x01"), 3), "101", None):
+        for other in (
+            [True, False],
+            [True, True, True],
+            Mask(bytearray(b"\x05"), 4),
+            Mask(bytearray(b"\x01"), 3),
+            "101",
+            None,
+        ):
             self.assertNotEqual(mask, other)
         self.assertEqual(repr(mask), "<Mask: 2 of 3>")
         self.assertRaises(TypeError, hash, mask)
         self.assertRaises(TypeError, mask.bits.__setitem__, 0, 1)
         self.assertRaises(ValueError, Mask, bytearray(1), 9)
 
+    def test_a_mask_counts_as_a_list_does(self):
+        values = [True, False, True]
+        mask = Mask(bytearray(b"\x05"), 3)
+        for value in (True, False, 1, 0, 1.0, 0.0, Fraction(1), 2, 0.5, None, [True], "True"):
+            self.assertEqual(mask.count(value), values.count(value), value)
+
+    def test_a_mask_has_no_bits_but_its_own(self):
+        for bits, count in ((b"\x08", 3), (b"\xff\x02", 9), (b"", -1), (b"\x01", -8)):
+            self.assertRaises(ValueError, Mask, bytearray(bits), count)
+        self.assertRaises(TypeError, Mask, bytearray(1), 1.0)
+        bits = bytearray(b"\x05\xff")
+        mask = Mask(bits, 3)
+        bits[0] = 255
+        self.assertEqual((mask, bytes(mask.bits)), ([True, False, True], b"\x05"))
+
+    @unittest.skipUnless(numpy, "numpy isn't there")
+    def test_an_array_of_a_mask_is_a_copy(self):
+        mask = Mask(bytearray(b"\x05"), 3)
+        self.assertRaises(ValueError, mask.__array__, copy=False)
+        self.assertEqual(mask.__array__(copy=True).tolist(), [True, False, True])
+
 
 class Hashes(unittest.TestCase):
+    def test_words_that_are_not_aligned_are_copied(self):
+        """The library is handed addresses that are multiples of 8, as its header wants."""
+        for first in range(8):
+            view = memoryview(bytearray(24))[first : first + 16].cast("Q")
+            view[0], view[1] = 5, 2**64 - 1
+            words, count = words_of(view)
+            self.assertEqual((ctypes.addressof(words) % 8, count), (0, 2))
+            self.assertEqual(list(words), [5, 2**64 - 1])
+            seen = small()
+            self.assertEqual(seen.add_hashes_tell_new(view), [True, True])
+            self.assertTrue(seen.contains_hash(5) and seen.contains_hash(2**64 - 1))
+
     def test_hashes_of_a_buffer_are_those_of_one_by_one(self):
         names = [f"item{number}" for number in range(3000)]
         for make in (small, shared):
@@ -120,6 +170,7 @@ class Hashes(unittest.TestCase):
 
     def test_no_null_pointer_reaches_the_library(self):
         """The library asks for an address also where there is nothing."""
+
         def raising():
             raise KeyError
             yield "crab"
@@ -130,11 +181,16 @@ class Hashes(unittest.TestCase):
             pointers.append(arguments[-2])
             return True
 
-        for cls, kind in ((Filter, ""), (SharedFilter, "shared_"), (BlockedFilter, "blocked_"),
-                          (SharedBlockedFilter, "blocked_shared_")):
+        for cls, kind in (
+            (Filter, ""),
+            (SharedFilter, "shared_"),
+            (BlockedFilter, "blocked_"),
+            (SharedBlockedFilter, "blocked_shared_"),
+        ):
             seen = cls(10, "1/1000")
-            with mock.patch.object(library, f"{kind}contains_hashes", call), \
-                    mock.patch.object(library, f"{kind}insert_hashes_tell_new", call):
+            with mock.patch.object(library, f"{kind}contains_hashes", call), mock.patch.object(
+                library, f"{kind}insert_hashes_tell_new", call
+            ):
                 self.assertEqual(seen.contains_hashes(array.array("Q")), [])
                 self.assertEqual(seen.add_hashes_tell_new(array.array("Q")), [])
                 self.assertRaises(KeyError, seen.contains_many, raising())
@@ -143,11 +199,24 @@ class Hashes(unittest.TestCase):
             self.assertTrue(pointer is not None and ctypes.addressof(pointer))
 
     def test_other_buffers_are_refused(self):
-        others = [array.array("q", [1]), array.array("I", [1, 2]), bytes(8), "12345678", 5, [1],
-                  memoryview(array.array("Q", [1, 2, 3, 4]))[::2], array.array("d", [1.0])]
+        others = [
+            array.array("q", [1]),
+            array.array("I", [1, 2]),
+            bytes(8),
+            "12345678",
+            5,
+            [1],
+            memoryview(array.array("Q", [1, 2, 3, 4]))[::2],
+            array.array("d", [1.0]),
+        ]
         if numpy:
-            others += [numpy.array([1]), numpy.array([1], dtype=">u8"),
-                       numpy.zeros((4, 4), dtype="u8")[:, ::2], numpy.uint64(5), numpy.float64(1)]
+            others += [
+                numpy.array([1]),
+                numpy.array([1], dtype=">u8"),
+                numpy.zeros((4, 4), dtype="u8")[:, ::2],
+                numpy.uint64(5),
+                numpy.float64(1),
+            ]
         for make in (small, shared):
             seen = make()
             for other in others:
@@ -167,11 +236,16 @@ class Hashes(unittest.TestCase):
 
 class Items(unittest.TestCase):
     def test_many_of_each_kind_are_added_as_one_by_one(self):
-        kinds = [[b"item%d" % number for number in range(5000)],
-                 [f"item{number}" for number in range(5000)],
-                 [f"Krabbe ü{number}" for number in range(5000)],
-                 [b"", b"", b"a"], ["", "ü", ""], [b"crab", "eel", bytearray(b"whale")],
-                 [b"\0" * number for number in range(300)], [f"nul\0{at}" for at in range(9)]]
+        kinds = [
+            [b"item%d" % number for number in range(5000)],
+            [f"item{number}" for number in range(5000)],
+            [f"Krabbe ü{number}" for number in range(5000)],
+            [b"", b"", b"a"],
+            ["", "ü", ""],
+            [b"crab", "eel", bytearray(b"whale")],
+            [b"\0" * number for number in range(300)],
+            [f"nul\0{at}" for at in range(9)],
+        ]
         for items in kinds:
             for make in (small, shared):
                 one, many = make(), make()
@@ -201,9 +275,12 @@ class Items(unittest.TestCase):
             raise KeyError("whale")
 
         for make in (small, shared):
-            for items, error in ((raising(), KeyError), (["crab", "eel", 5, "whale"], TypeError),
-                                 (["crab", "eel", "\ud800", "whale"], UnicodeEncodeError),
-                                 ([b"crab", b"eel", None, b"whale"], TypeError)):
+            for items, error in (
+                (raising(), KeyError),
+                (["crab", "eel", 5, "whale"], TypeError),
+                (["crab", "eel", "\ud800", "whale"], UnicodeEncodeError),
+                ([b"crab", b"eel", None, b"whale"], TypeError),
+            ):
                 seen = make()
                 self.assertRaises(error, seen.update, items)
                 self.assertEqual(seen.contains_many(["crab", "eel", "whale"]), [True, True, False])
@@ -214,8 +291,9 @@ class Items(unittest.TestCase):
             other.add("lobster")
             seen = make()
             seen.update(["crab"], iter([b"eel"]), other, ())
-            self.assertEqual(seen.contains_many(["crab", "eel", "lobster", "whale"]),
-                             [True, True, True, False])
+            self.assertEqual(
+                seen.contains_many(["crab", "eel", "lobster", "whale"]), [True, True, True, False]
+            )
             seen.update()
             before = seen.count_ones()
             for bad in ("whale", b"whale", 5, None):
@@ -242,8 +320,10 @@ class Sets(unittest.TestCase):
     def test_intersections(self):
         self.assertEqual(self.more.intersection(self.few), self.few)
         self.assertEqual(self.more.intersection(iter(["crab", "eel"])), self.few)
-        self.assertEqual(self.more.intersection(self.few, self.other).count_ones(),
-                         (self.few & self.other).count_ones())
+        self.assertEqual(
+            self.more.intersection(self.few, self.other).count_ones(),
+            (self.few & self.other).count_ones(),
+        )
         self.assertEqual(self.more.intersection(), self.more)
         kept = self.more.copy()
         kept.intersection_update(["crab", "eel"], self.more)
@@ -301,8 +381,9 @@ class Memory(unittest.TestCase):
 
     def test_the_size_has_the_words(self):
         one, other = Filter(10, "1/2"), Filter(100_000, "1/2")
-        self.assertEqual(sys.getsizeof(other) - sys.getsizeof(one),
-                         8 * (other.num_words - one.num_words))
+        self.assertEqual(
+            sys.getsizeof(other) - sys.getsizeof(one), 8 * (other.num_words - one.num_words)
+        )
 
     def test_pickles_hand_the_words_out(self):
         seen = Filter(10_000, "1/1000", bytes(range(16)))
@@ -311,8 +392,11 @@ class Memory(unittest.TestCase):
         data = pickle.dumps(seen, 5, buffer_callback=buffers.append)
         self.assertLess(len(data), 500)
         self.assertEqual([it.raw().nbytes for it in buffers], [8 * seen.num_words])
-        for given in (buffers, [bytes(it.raw()) for it in buffers],
-                      [bytearray(it.raw()) for it in buffers]):
+        for given in (
+            buffers,
+            [bytes(it.raw()) for it in buffers],
+            [bytearray(it.raw()) for it in buffers],
+        ):
             read = pickle.loads(data, buffers=given)
             self.assertEqual((read, read.key), (seen, seen.key))
             self.assertFalse(read.add("whale"))
@@ -335,11 +419,23 @@ class Types(unittest.TestCase):
             self.assertNotIsInstance(other, AnyFilter)
 
     def test_the_types_of_each_call_are_found(self):
-        for cls in (Filter, SharedFilter, BlockedFilter, SharedBlockedFilter, RotatingFilter, Mask,
-                    AnyFilter):
-            calls = [call for _, call in inspect.getmembers(cls, inspect.isroutine)
-                     if (getattr(call, "__module__", None) or "").startswith("fastbloom")]
-            calls += [it.fget for _, it in inspect.getmembers(cls, lambda it: isinstance(it, property))]
+        for cls in (
+            Filter,
+            SharedFilter,
+            BlockedFilter,
+            SharedBlockedFilter,
+            RotatingFilter,
+            Mask,
+            AnyFilter,
+        ):
+            calls = [
+                call
+                for _, call in inspect.getmembers(cls, inspect.isroutine)
+                if (getattr(call, "__module__", None) or "").startswith("fastbloom")
+            ]
+            calls += [
+                it.fget for _, it in inspect.getmembers(cls, lambda it: isinstance(it, property))
+            ]
             self.assertGreater(len(calls), 5)
             for call in calls:
                 typing.get_type_hints(call)

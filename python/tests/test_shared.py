@@ -5,6 +5,7 @@ import mmap
 import multiprocessing
 import os
 import pickle
+import sys
 import tempfile
 import threading
 import unittest
@@ -20,7 +21,9 @@ HASHES, THREADS, WORKERS, WORDS = 1_000_000, 8, 4, 30_011
 def hashes_of(count):
     """The hashes of numbers, spread evenly: the states of splitmix64's finish, by its odd step."""
     mask = 2**64 - 1
-    return array.array("Q", ((number * 0x9e3779b97f4a7c15) & mask for number in range(1, count + 1)))
+    return array.array(
+        "Q", ((number * 0x9E3779B97F4A7C15) & mask for number in range(1, count + 1))
+    )
 
 
 def zeros(words=WORDS, hashes=1):
@@ -30,7 +33,7 @@ def zeros(words=WORDS, hashes=1):
 def fill_memory(name, words, part):
     """A process that adds part of the items to a filter in memory that processes share."""
     memory = shared_memory.SharedMemory(name)
-    seen = SharedFilter.over(memory.buf[:8 * words], 3)
+    seen = SharedFilter.over(memory.buf[: 8 * words], 3)
     seen.update(b"%d" % number for number in range(part, 20_000, WORKERS))
     seen.release()
     memory.close()
@@ -66,7 +69,7 @@ class Threads(unittest.TestCase):
         """What each thread counts, of hashes each of which another thread adds too."""
         part, step = HASHES // (THREADS // 2), HASHES // THREADS
         twice = self.hashes + self.hashes
-        parts = [twice[step * me:step * me + part] for me in range(THREADS)]
+        parts = [twice[step * me : step * me + part] for me in range(THREADS)]
         begin, counts = threading.Barrier(THREADS), []
 
         def run(hashes):
@@ -100,7 +103,7 @@ class Threads(unittest.TestCase):
 
         news = self.run_threads(add)
         self.assertEqual(news, seen.count_ones())
-        part = self.hashes[:HASHES // THREADS:5]
+        part = self.hashes[: HASHES // THREADS : 5]
         self.assertEqual(seen.contains_hashes(part), [True] * len(part))
 
     def test_what_is_taken_and_what_is_left_is_all(self):
@@ -114,8 +117,11 @@ class Threads(unittest.TestCase):
 
         taker = threading.Thread(target=take)
         taker.start()
-        self.run_threads(lambda hashes: [seen.add_hashes(hashes[at:at + 1000])
-                                         for at in range(0, len(hashes), 1000)].count(1))
+        self.run_threads(
+            lambda hashes: [
+                seen.add_hashes(hashes[at : at + 1000]) for at in range(0, len(hashes), 1000)
+            ].count(1)
+        )
         ended.set()
         taker.join()
         taken |= seen.load()
@@ -132,7 +138,7 @@ class Processes(unittest.TestCase):
         memory = shared_memory.SharedMemory(create=True, size=8 * words)
         try:
             self.assertEqual(run_workers(fill_memory, memory.name, words), [0] * WORKERS)
-            seen = SharedFilter.over(memory.buf[:8 * words], 3)
+            seen = SharedFilter.over(memory.buf[: 8 * words], 3)
             plain = Filter.__new__(Filter)
             plain._set(bytearray(8 * words), 0, words, 3, bytes(16))
             plain.update(b"%d" % number for number in range(20_000))
@@ -167,8 +173,10 @@ class Calls(unittest.TestCase):
     def test_one_thread_gets_what_a_plain_filter_gives(self):
         key = bytes(range(16))
         seen, plain = SharedFilter(100, "1/100", key), Filter(100, "1/100", key)
-        self.assertEqual((seen.num_bits, seen.num_hashes, seen.key),
-                         (plain.num_bits, plain.num_hashes, plain.key))
+        self.assertEqual(
+            (seen.num_bits, seen.num_hashes, seen.key),
+            (plain.num_bits, plain.num_hashes, plain.key),
+        )
         for number in range(150):
             item = f"item{number}"
             self.assertEqual(item in seen, item in plain)
@@ -207,8 +215,12 @@ class Calls(unittest.TestCase):
         self.assertEqual(seen.add_hashes_tell_new(array.array("Q", [5, 5])), [True, False])
         self.assertEqual(seen.contains_hashes(memoryview(bytes(16)).cast("Q")), [True, True])
         self.assertEqual(seen.contains_hashes(array.array("Q")), [])
-        for refused in (b"12345678", array.array("q", [1]), array.array("d", [1]),
-                        memoryview(array.array("Q", [1, 2, 3]))[::2]):
+        for refused in (
+            b"12345678",
+            array.array("q", [1]),
+            array.array("d", [1]),
+            memoryview(array.array("Q", [1, 2, 3]))[::2],
+        ):
             with self.assertRaises(TypeError):
                 seen.add_hashes(refused)
 
@@ -258,6 +270,45 @@ class Calls(unittest.TestCase):
         with self.assertRaises(Refusal):
             seen.load()
         memory.close()
+
+    def test_a_call_that_a_release_interrupts_ends_with_the_words_that_it_had(self):
+        """What is called for each function of Python releases the filter, once a call has begun."""
+        for filters in (SharedFilter, SharedBlockedFilter):
+            for name in ("contains_hashes", "add_hashes_tell_new"):
+                memory = mmap.mmap(-1, 4096)
+                seen = filters.over(memory, 1)
+                seen.add_hashes(array.array("Q", [5]))
+                closed = []
+
+                def release(frame, event, _):
+                    if frame.f_code.co_name == "told":
+                        sys.settrace(None)
+                        seen.release()
+                        try:
+                            memory.close()
+                        except BufferError as error:
+                            closed.append(str(error))
+
+                before = sys.gettrace()
+                try:
+                    sys.settrace(release)
+                    told = getattr(seen, name)(array.array("Q", [5, 6]))
+                finally:
+                    sys.settrace(before)
+                self.assertEqual(told[0], name == "contains_hashes")
+                self.assertEqual((len(closed), seen.num_words), (1, 0))
+                memory.close()
+
+    def test_a_buffer_that_was_refused_is_not_kept(self):
+        for filters in (SharedFilter, SharedBlockedFilter):
+            for size, hashes, key in ((0, 1, bytes(16)), (9, 1, bytes(16)), (64, 1, bytes(15))):
+                memory = bytearray(size)
+                try:
+                    filters.over(memory, hashes, key)
+                except ValueError:
+                    memory.append(1)  # which a view of it would refuse
+                else:
+                    self.fail("it wasn't refused")
 
     def test_a_number_that_releases_the_words_changes_nothing(self):
         for filters, size in ((SharedFilter, 8), (SharedBlockedFilter, 64)):

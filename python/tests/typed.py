@@ -10,8 +10,15 @@ from pathlib import Path
 from typing import List, Optional, Tuple
 
 from fastbloom import (
-    AnyFilter, BlockedFilter, Filter, Mask, Refusal, RotatingFilter, SharedBlockedFilter,
-    SharedFilter)
+    AnyFilter,
+    BlockedFilter,
+    Filter,
+    Mask,
+    Refusal,
+    RotatingFilter,
+    SharedBlockedFilter,
+    SharedFilter,
+)
 
 
 class Own(Filter):

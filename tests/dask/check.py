@@ -13,12 +13,14 @@ import signal
 import subprocess
 import sys
 import tempfile
+import time
+import tracemalloc
 from pathlib import Path
 from unittest import mock
 
 import dask.bag
 from dask import delayed
-from distributed import Client
+from distributed import Client, wait
 
 TOP = Path(__file__).resolve().parents[2]
 sys.path.insert(0, str(TOP / "examples/dask"))
@@ -196,6 +198,12 @@ def on_own_workers(checks):
         [f"shards: {inside} lies in "],
         [*SHARDS, checks.folder / "bad", *SIZE, "--out", inside],
     )
+    for out in checks.folder, "", "none/out.bloom", checks.folder / "bad" / "a.keys" / "out.bloom":
+        checks.fails(
+            f"a filter's file that can't be written: {str(out)[-15:]!r}",
+            ["shards: ", " is no file" if out in (checks.folder, "") else " can't be written"],
+            [*SHARDS, checks.folder / "bad", *SIZE, "--out", out],
+        )
     os.mkfifo(checks.folder / "bad" / "pipe")
     checks.fails(
         "a pipe",
@@ -295,6 +303,44 @@ def by_the_module(checks):
             )
         failures(checks, client, files[1])
         refusals(checks, client, frame, built)
+        is_done_again(checks, client)
+    grows_linearly(checks)
+
+
+def is_done_again(checks, client):
+    """All workers are killed that have a union, and look-ups, of filters that were handed over."""
+    one, other = Filter(10, "1/1000"), Filter(10, "1/1000")
+    one.add("crab")
+    other.add("eel")
+    united = bloom_dask.unite(client, [one, other])
+    asked = bloom_dask.ask(client, one, dask.bag.from_sequence(["crab", "whale"], npartitions=1))
+    wait([united, *asked])
+    for pid in client.run(os.getpid).values():
+        os.kill(pid, signal.SIGKILL)
+    for what, wanted, call in [
+        ("a union", True, lambda: united.result(PATIENCE) == one | other),
+        ("look-ups", [["crab"]], lambda: [it.result(PATIENCE) for it in asked]),
+    ]:
+        checks.check(f"{what}, done again once all workers were lost", wanted, why(call))
+
+
+def grows_linearly(checks):
+    """What `build` does before the workers begin takes time by the number of parts."""
+    client = mock.Mock(compute=lambda made, retries: made, nthreads=lambda: {"worker": 4})
+    times = []
+    for count in 10_000, 40_000:
+        began = time.process_time()
+        bloom_dask.build(client, [f"/{number}" for number in range(count)], 1000, "1/1000")
+        times.append(time.process_time() - began)
+    checks.check(
+        "four times the parts take less than nine times as long", True, times[1] < 9 * times[0]
+    )
+    tracemalloc.start()
+    bloom_dask.build(client, ["keys"], 50_000_000, "1/1000")
+    checks.check(
+        "no filter is made to check its size", True, tracemalloc.get_traced_memory()[1] < 10**6
+    )
+    tracemalloc.stop()
 
 
 @delayed(pure=False)

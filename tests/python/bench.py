@@ -19,17 +19,18 @@ import time
 from fastbloom import SharedFilter
 from fastbloom import _library as library
 
-ITEMS, THREADS, ROUNDS, AT_ONCE = (
-    [int(word) for word in sys.argv[1:]] + [1_000_000, 4, 5, 65_536][len(sys.argv) - 1:])
+ITEMS, THREADS, ROUNDS, AT_ONCE = [int(word) for word in sys.argv[1:]] + [1_000_000, 4, 5, 65_536][
+    len(sys.argv) - 1 :
+]
 
 
 def spread(count):
     """The hashes of numbers, spread evenly: the finish of splitmix64."""
     mask, hashes = 2**64 - 1, array.array("Q")
     for number in range(1, count + 1):
-        word = number * 0x9e3779b97f4a7c15 & mask
-        word = (word ^ word >> 30) * 0xbf58476d1ce4e5b9 & mask
-        word = (word ^ word >> 27) * 0x94d049bb133111eb & mask
+        word = number * 0x9E3779B97F4A7C15 & mask
+        word = (word ^ word >> 30) * 0xBF58476D1CE4E5B9 & mask
+        word = (word ^ word >> 27) * 0x94D049BB133111EB & mask
         hashes.append(word ^ word >> 31)
     return hashes
 
@@ -49,8 +50,10 @@ def seconds(call, pieces, threads):
             call(piece)
         times.append((began, time.perf_counter()))
 
-    workers = [threading.Thread(target=run, args=(pieces[part * me:part * (me + 1)],))
-               for me in range(threads)]
+    workers = [
+        threading.Thread(target=run, args=(pieces[part * me : part * (me + 1)],))
+        for me in range(threads)
+    ]
     for worker in workers:
         worker.start()
     for worker in workers:
@@ -81,7 +84,7 @@ def main():
     pieces = max(THREADS, ITEMS // AT_ONCE // THREADS * THREADS)
     size = ITEMS // pieces
     hashes = spread(pieces * size)
-    buffers_of_hashes = [hashes[size * at:size * (at + 1)] for at in range(pieces)]
+    buffers_of_hashes = [hashes[size * at : size * (at + 1)] for at in range(pieces)]
     lists = [[word.to_bytes(8, "little") for word in piece] for piece in buffers_of_hashes]
     seen = SharedFilter.over(bytearray((len(hashes) * 10 + 63) // 64 * 8), 7)
 
@@ -90,11 +93,12 @@ def main():
             item in seen
 
     for name, call, given, clears in (
-            ("update", seen.update, lists, True),
-            ("contains_many", seen.contains_many, lists, False),
-            ("in", look, lists, False),
-            ("add_hashes", seen.add_hashes, buffers_of_hashes, True),
-            ("contains_hashes", seen.contains_hashes, buffers_of_hashes, False)):
+        ("update", seen.update, lists, True),
+        ("contains_many", seen.contains_many, lists, False),
+        ("in", look, lists, False),
+        ("add_hashes", seen.add_hashes, buffers_of_hashes, True),
+        ("contains_hashes", seen.contains_hashes, buffers_of_hashes, False),
+    ):
         best = {}
         for _ in range(ROUNDS):
             for threads in (1, THREADS):

@@ -2,6 +2,7 @@
 
 import os
 import shutil
+import subprocess
 import sys
 
 import pytest
@@ -171,6 +172,20 @@ def test_a_crawler_visits_each_page_once(tmp_path):
         ("new.html", ["alone.html", "new.html"]),
     ):
         assert run(*words, page)[:2] == (0, "".join(f"{it}\n" for it in visited))
+
+
+def test_a_crawler_ends_at_names_that_no_file_has(tmp_path):
+    """A link has a zero byte, and the name of a page that is asked for is no UTF-8."""
+    (tmp_path / "index.html").write_bytes(b'<a href="a\0b">no page</a> <a href="eel.html">eel</a>')
+    words = [sys.executable, EXAMPLES / "python/crawler.py", tmp_path / "pages.bloom", tmp_path]
+    done = subprocess.run(
+        [*words, "index.html", b"\xff.html"],
+        stdout=subprocess.PIPE,
+        timeout=60,
+        check=True,
+        env={**os.environ, "PYTHONIOENCODING": "utf-8:surrogateescape"},
+    )
+    assert done.stdout == b"a\0b\neel.html\nindex.html\n\xff.html\n"
 
 
 def test_rust_deduplicates_a_log(rust_program, tmp_path):

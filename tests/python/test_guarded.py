@@ -19,8 +19,7 @@ from guarded import Guarded  # noqa: E402
 WRITES = {
     "an insert": "INSERT INTO store VALUES ('eel', 9)",
     "a replacement": "REPLACE INTO store VALUES ('eel', 9)",
-    "an insert or update":
-        "INSERT INTO store VALUES ('eel', 9) ON CONFLICT DO UPDATE SET value = 9",
+    "an insert or update": "INSERT INTO store VALUES ('eel', 9) ON CONFLICT DO UPDATE SET value = 9",
     "another key": "UPDATE store SET key = 'eel', value = 9",
     "a table made anew": """
         BEGIN;
@@ -62,13 +61,17 @@ class GuardedTables(unittest.TestCase):
 
     def elsewhere(self, script):
         """Runs lines in another process, which ends at once where they end, as by a crash."""
-        words = [sys.executable, "-c", f"""
+        words = [
+            sys.executable,
+            "-c",
+            f"""
 import os, sys
 sys.path.insert(0, {str(EXAMPLES)!r})
 from guarded import Guarded
 guarded = Guarded({str(self.path)!r})
 {script}
-os._exit(7)"""]
+os._exit(7)""",
+        ]
         self.assertEqual(subprocess.run(words, check=False).returncode, 7)
 
     def asks(self, guarded, key):
@@ -101,7 +104,8 @@ os._exit(7)"""]
         self.elsewhere(
             "guarded.db.set_trace_callback(lambda text: text == 'COMMIT' and os._exit(7))\n"
             "guarded.put('eel', 9)\n"
-            "os._exit(8)")
+            "os._exit(8)"
+        )
         for each in guarded, self.opened():
             self.assertEqual(self.asks(each, "eel"), (None, False))
             self.assertEqual(self.asks(each, "crab"), (10, True))
@@ -112,7 +116,8 @@ os._exit(7)"""]
             "os.replace = lambda *names: os._exit(7)\n"
             "guarded.put('eel', 9)\n"
             "guarded.save()\n"
-            "os._exit(8)")
+            "os._exit(8)"
+        )
         self.assertEqual(self.opened().get("eel"), 9)
 
     def test_a_change_that_fails(self):
@@ -128,8 +133,10 @@ os._exit(7)"""]
         whole = file.read_bytes()
         place = whole.index(b"\n") + 1
         damaged = [whole[:size] for size in (0, 1, place - 1, place, place + 8, len(whole) - 1)]
-        damaged += [whole[:at] + bytes([whole[at] ^ 1]) + whole[at + 1:]
-                    for at in (0, place - 1, place, place + 8, place + 64, len(whole) - 1)]
+        damaged += [
+            whole[:at] + bytes([whole[at] ^ 1]) + whole[at + 1 :]
+            for at in (0, place - 1, place, place + 8, place + 64, len(whole) - 1)
+        ]
         for data in damaged:
             file.write_bytes(data)
             guarded = self.opened()

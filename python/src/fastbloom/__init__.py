@@ -23,5 +23,15 @@ from ._rotating import RotatingFilter
 from ._shared import SharedFilter
 
 __version__ = "0.17.0+rattle.1"
-__all__ = ["AnyFilter", "BlockedFilter", "Estimate", "Filter", "Mask", "Refusal",
-           "RotatingFilter", "SharedBlockedFilter", "SharedFilter", "__version__"]
+__all__ = [
+    "AnyFilter",
+    "BlockedFilter",
+    "Estimate",
+    "Filter",
+    "Mask",
+    "Refusal",
+    "RotatingFilter",
+    "SharedBlockedFilter",
+    "SharedFilter",
+    "__version__",
+]

@@ -8,13 +8,34 @@ import os
 import pickle
 import typing
 from typing import (
-    TYPE_CHECKING, Any, Callable, Iterable, List, Optional, Tuple, Type, TypeVar, Union)
+    TYPE_CHECKING,
+    Any,
+    Callable,
+    Iterable,
+    List,
+    Optional,
+    Tuple,
+    Type,
+    TypeVar,
+    Union,
+)
 
 from . import _library as library
 from ._files import Path, map_file, open_regular, write_file
 from ._filter import (
-    _CUT, _HEAD, _SEAL, Refusal, _add_attributes, _attributes_of, _check, _check_file, _hash_value,
-    _number_of_items, _parts, _state_of)
+    _CUT,
+    _HEAD,
+    _SEAL,
+    Refusal,
+    _add_attributes,
+    _attributes_of,
+    _check,
+    _check_file,
+    _hash_value,
+    _number_of_items,
+    _parts,
+    _state_of,
+)
 from ._items import Buffer, Item, Rate, bytes_of, check_many, plain_bytes
 from ._locks import alone, alone_with, new_lock
 from ._many import Hashes, each_part, told, words_of
@@ -28,8 +49,9 @@ else:  # for typing.get_type_hints, also before Python 3.11
 _LINE = 64  # bytes; a line of the cache has as many
 
 
-def _restored(cls: Type[BlockedFilter], num_hashes: int, key: bytes,
-              words: Buffer) -> BlockedFilter:
+def _restored(
+    cls: Type[BlockedFilter], num_hashes: int, key: bytes, words: Buffer
+) -> BlockedFilter:
     """The filter that was pickled. Its words are copied: they may be another filter's."""
     lines = memoryview(words).cast("B")
     if not 1 <= num_hashes < 2**32:
@@ -77,7 +99,7 @@ class BlockedFilter:
         memory = memoryview(bytearray(_LINE * (num_lines + 1)))
         # The words begin where a line of the cache does.
         first = -ctypes.addressof(ctypes.c_char.from_buffer(memory)) % _LINE
-        self._take(memory[first:first + _LINE * num_lines], num_hashes, key)
+        self._take(memory[first : first + _LINE * num_lines], num_hashes, key)
 
     def _take(self, view: memoryview, num_hashes: int, key: bytes) -> None:
         """Takes the lines of a view, which have no other user."""
@@ -125,14 +147,16 @@ class BlockedFilter:
         """
         data = bytes_of(item)
         return library.blocked_insert(
-            self._at, self._num_words, self._num_hashes, self._key, data, len(data))
+            self._at, self._num_words, self._num_hashes, self._key, data, len(data)
+        )
 
     @alone
     def __contains__(self, item: Item) -> bool:
         """Whether an item is contained. False: it was never added. True may be a false positive."""
         data = bytes_of(item)
         return library.blocked_contains(
-            self._at, self._num_words, self._num_hashes, self._key, data, len(data))
+            self._at, self._num_words, self._num_hashes, self._key, data, len(data)
+        )
 
     def hash(self, item: Item) -> int:
         """The hash of an item: SipHash-1-3 of its bytes under the key."""
@@ -143,13 +167,15 @@ class BlockedFilter:
     def add_hash(self, value: int) -> bool:
         """As `add`, by the hash. One out of range raises ValueError."""
         return library.blocked_insert_hash(
-            self._at, self._num_words, self._num_hashes, _hash_value(value))
+            self._at, self._num_words, self._num_hashes, _hash_value(value)
+        )
 
     @alone
     def contains_hash(self, value: int) -> bool:
         """As `in`, by the hash. One out of range raises ValueError."""
         return library.blocked_contains_hash(
-            self._at, self._num_words, self._num_hashes, _hash_value(value))
+            self._at, self._num_words, self._num_hashes, _hash_value(value)
+        )
 
     # Many items
 
@@ -177,8 +203,12 @@ class BlockedFilter:
     def contains_many(self, items: Iterable[Item]) -> List[bool]:
         """Whether each item of an iterable is contained, in their order, many by one call."""
         answers: List[bool] = []
-        each_part(items, self._key, "in",
-                  lambda hashes: answers.extend(self._contains_hashed(hashes).tolist()))
+        each_part(
+            items,
+            self._key,
+            "in",
+            lambda hashes: answers.extend(self._contains_hashed(hashes).tolist()),
+        )
         return answers
 
     def add_hashes(self, hashes: Buffer) -> None:
@@ -191,8 +221,9 @@ class BlockedFilter:
 
     @alone
     def _contains_hashed(self, hashes: Hashes) -> Mask:
-        return told(library.blocked_contains_hashes,
-                    (self._at, self._num_words, self._num_hashes), hashes)
+        return told(
+            library.blocked_contains_hashes, (self._at, self._num_words, self._num_hashes), hashes
+        )
 
     def add_hashes_tell_new(self, hashes: Buffer) -> Mask:
         """Adds each hash of a buffer of words of 64 bits, and tells which of them were new.
@@ -203,8 +234,11 @@ class BlockedFilter:
 
     @alone
     def _add_hashed_tell_new(self, hashes: Hashes) -> Mask:
-        return told(library.blocked_insert_hashes_tell_new,
-                    (self._at, self._num_words, self._num_hashes), hashes)
+        return told(
+            library.blocked_insert_hashes_tell_new,
+            (self._at, self._num_words, self._num_hashes),
+            hashes,
+        )
 
     @alone
     def clear(self) -> None:
@@ -365,7 +399,8 @@ class BlockedFilter:
         """
         data = plain_bytes(data, "a file is a bytes-like object")
         num_words, num_hashes, key, seal = _check_file(
-            data[:_HEAD], len(data), max_hashes, library.blocked_head_read)
+            data[:_HEAD], len(data), max_hashes, library.blocked_head_read
+        )
         read = cls.__new__(cls)
         read._set(num_words // 8, num_hashes, key)
         read._view[:] = memoryview(data)[_HEAD:]
@@ -380,7 +415,8 @@ class BlockedFilter:
         with open_regular(path) as file:
             head, size = file.read(_HEAD), os.fstat(file.fileno()).st_size
             num_words, num_hashes, key, seal = _check_file(
-                head, size, max_hashes, library.blocked_head_read)
+                head, size, max_hashes, library.blocked_head_read
+            )
             read = cls.__new__(cls)
             if mapped:
                 read._take(memoryview(map_file(file, size))[_HEAD:], num_hashes, key)

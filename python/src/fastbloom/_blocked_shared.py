@@ -11,8 +11,7 @@ from typing import Any, Callable, Iterable, List, NoReturn, Union
 from . import _library as library
 from ._blocked import _LINE, BlockedFilter
 from ._files import Path, map_file, open_regular, shared_memory
-from ._filter import (
-    _HEAD, Refusal, _check, _check_file, _hash_value, _number_of_items, _parts)
+from ._filter import _HEAD, Refusal, _check, _check_file, _hash_value, _number_of_items, _parts
 from ._items import Buffer, Item, Rate, bytes_of, check_many, plain_bytes
 from ._many import Hashes, each_part, told, words_of
 from ._mask import Mask
@@ -28,7 +27,7 @@ class SharedBlockedFilter:
     than those of a `SharedFilter`. It takes no filter of another kind in.
     """
 
-    __slots__ = ("_owner", "_view", "_words", "_num_hashes", "_key", "__weakref__")
+    __slots__ = ("_view", "_words", "_num_hashes", "_key", "__weakref__")
 
     def __init__(self, items: int, rate: Rate, key: Buffer = bytes(16)) -> None:
         """The empty filter for this many items, at a rate of false positives: as `BlockedFilter`."""
@@ -65,7 +64,8 @@ class SharedBlockedFilter:
         with open_regular(path, "r+b") as file:
             head, size = file.read(_HEAD), os.fstat(file.fileno()).st_size
             _, num_hashes, key, seal = _check_file(
-                head, size, max_hashes, library.blocked_head_read)
+                head, size, max_hashes, library.blocked_head_read
+            )
             if seal:
                 raise ValueError("the file has a seal, which adds would make wrong")
             memory = map_file(file, size, mmap.ACCESS_WRITE)
@@ -79,17 +79,19 @@ class SharedBlockedFilter:
         key = plain_bytes(key, "a key is a bytes-like object")
         if len(key) != 16:
             raise ValueError("a key is sixteen bytes")
-        # The view keeps the memory where it is.
         view = memoryview(memory).cast("B")
-        if view.nbytes == 0:
-            raise Refusal(_EMPTY_WORDS)
-        if view.nbytes // 8 >= 2**58:
-            raise Refusal(_TOO_MANY_WORDS)
-        at = ctypes.addressof(ctypes.c_char.from_buffer(view))
-        if view.nbytes % _LINE or at % 8:
-            raise ValueError("lines are of 64 bytes, and aligned to eight")
-        self._owner, self._view = memory, view
-        self._words = library.SharedWords(at, view.nbytes // 8)
+        try:
+            if view.nbytes == 0:
+                raise Refusal(_EMPTY_WORDS)
+            if view.nbytes // 8 >= 2**58:
+                raise Refusal(_TOO_MANY_WORDS)
+            words = library.SharedWords(view)
+            if view.nbytes % _LINE or words.words % 8:
+                raise ValueError("lines are of 64 bytes, and aligned to eight")
+        except BaseException:
+            view.release()  # or the error would keep the memory in use
+            raise
+        self._view, self._words = view, words
         self._num_hashes, self._key = num_hashes, key
 
     def release(self) -> None:
@@ -98,9 +100,8 @@ class SharedBlockedFilter:
         It then has no words: it contains nothing, and keeps nothing that is added. `load` and
         `take` raise Refusal.
         """
-        self._words = library.SharedWords(None, 0)
-        self._view.release()
-        self._owner = None
+        self._words = library.SharedWords(memoryview(b""))
+        self._view = self._words.memory
 
     @property
     def num_words(self) -> int:
@@ -136,7 +137,8 @@ class SharedBlockedFilter:
         """
         data = bytes_of(item)
         return library.blocked_shared_insert(
-            self._words, self._num_hashes, self._key, data, len(data))
+            self._words, self._num_hashes, self._key, data, len(data)
+        )
 
     def __contains__(self, item: Item) -> bool:
         """Whether an item is contained. True may be a false positive.
@@ -145,7 +147,8 @@ class SharedBlockedFilter:
         """
         data = bytes_of(item)
         return library.blocked_shared_contains(
-            self._words, self._num_hashes, self._key, data, len(data))
+            self._words, self._num_hashes, self._key, data, len(data)
+        )
 
     def hash(self, item: Item) -> int:
         """The hash of an item: SipHash-1-3 of its bytes under the key."""
@@ -188,8 +191,14 @@ class SharedBlockedFilter:
     def contains_many(self, items: Iterable[Item]) -> List[bool]:
         """Whether each item of an iterable is contained, in their order, many by one call."""
         answers: List[bool] = []
-        each_part(items, self._key, "in", lambda hashes: answers.extend(
-            self._tell(library.blocked_shared_contains_hashes, hashes).tolist()))
+        each_part(
+            items,
+            self._key,
+            "in",
+            lambda hashes: answers.extend(
+                self._tell(library.blocked_shared_contains_hashes, hashes).tolist()
+            ),
+        )
         return answers
 
     def add_hashes(self, hashes: Buffer) -> None:
@@ -235,12 +244,13 @@ class SharedBlockedFilter:
         return self._plain(library.shared_load)
 
     def _plain(self, call: Callable[..., bool]) -> BlockedFilter:
-        count = self.num_words
+        words = self._words
+        count = words.num_words
         if count == 0:  # it was released
             raise Refusal(_EMPTY_WORDS)
         plain = BlockedFilter.__new__(BlockedFilter)
-        plain._set(self.num_lines, self._num_hashes, self._key)
-        call(self._words, plain._at, count)
+        plain._set(count // 8, self._num_hashes, self._key)
+        call(words, plain._at, count)
         return plain
 
     def _check_shape(self, other: SharedBlockedFilter) -> None:
@@ -270,7 +280,9 @@ class SharedBlockedFilter:
         return self
 
     def __reduce__(self) -> NoReturn:
-        raise TypeError("a shared filter isn't pickled: hand its memory or its file on, or `load()`")
+        raise TypeError(
+            "a shared filter isn't pickled: hand its memory or its file on, or `load()`"
+        )
 
     def __repr__(self) -> str:
         """The size, and whether there is a key. The key itself isn't shown: it may be secret."""

@@ -14,6 +14,10 @@ from typing import Any, Optional, Union
 
 Path = Union[str, bytes, "os.PathLike[str]", "os.PathLike[bytes]"]
 
+# How many bytes of a name are taken into that of the file beside it, which has 255 at most.
+_LONGEST_NAME = 255 - len(".0123456789abcdef.part")
+_ACL = "system.posix_acl_access"
+
 # A mapping needs no descriptor, but before Python 3.13 it keeps one.
 _WITHOUT_DESCRIPTOR: Any = {"trackfd": False} if sys.version_info >= (3, 13) else {}
 
@@ -25,7 +29,9 @@ def write_file(path: Path, data: bytearray) -> None:
     flushed: where that fails, the new file is there.
     """
     path = os.fsencode(path)
-    part = b"%s.%s.part" % (path, secrets.token_hex(8).encode())
+    folder, name = os.path.split(path)
+    part = b"%s.%s.part" % (name[:_LONGEST_NAME], secrets.token_hex(8).encode())
+    part = os.path.join(folder, part)
     before = _status_of(path)
     flags = os.O_WRONLY | os.O_CREAT | os.O_EXCL | os.O_CLOEXEC
     descriptor = os.open(part, flags, 0o666 if before is None else 0o600)
@@ -34,7 +40,7 @@ def write_file(path: Path, data: bytearray) -> None:
             file.write(data)
             file.flush()
             if before is not None:
-                _give_rights(descriptor, before)
+                _give_rights(descriptor, before, _acl_of(path))
             os.fsync(descriptor)
         os.replace(part, path)
     except BaseException:
@@ -73,22 +79,53 @@ def _flush_folder(path: bytes) -> None:
         os.close(folder)
 
 
-def _give_rights(descriptor: int, before: os.stat_result) -> None:
-    """Gives a file the owner, group and mode of another one, as far as this is allowed."""
-    mode = stat.S_IMODE(before.st_mode) & 0o777
+def _acl_of(file: Union[bytes, int]) -> Optional[bytes]:
+    """The access control list of a file, links followed, where there is one beside its mode."""
+    try:
+        return os.getxattr(file, _ACL)
+    except OSError as error:
+        if error.errno in (errno.ENODATA, errno.ENOTSUP, errno.ENOSYS):
+            return None
+        raise
+
+
+def _give_rights(descriptor: int, before: os.stat_result, acl: Optional[bytes]) -> None:
+    """Gives a file the owner, group, mode and list of another one, as far as this is allowed.
+
+    Nobody but the owner gets a right that the other file didn't give.
+    """
+    mode, has_group = stat.S_IMODE(before.st_mode) & 0o777, False
     for owner in (before.st_uid, -1):  # -1: the owner stays
         with contextlib.suppress(OSError):
             os.fchown(descriptor, owner, before.st_gid)
+            has_group = True
             break
-    else:
-        mode &= 0o707  # not to the members of another group
-    os.fchmod(descriptor, mode)
+    else:  # not to the members of another group; and those of the old one are among the others now
+        mode &= 0o700 | mode >> 3 & 0o007
+    try:
+        if acl is not None and has_group:
+            os.setxattr(descriptor, _ACL, acl)
+            return
+        if _acl_of(descriptor) is not None:  # by the folder's default
+            os.removexattr(descriptor, _ACL)
+    except OSError:
+        mode &= 0o700
+    os.fchmod(descriptor, mode if acl is None else mode & 0o700)
+
+
+def _open(path: Path, flags: int) -> int:
+    """Opens a file. A pipe isn't waited for, and a process that has a lease of a file is."""
+    flags |= os.O_NOCTTY
+    try:
+        return os.open(path, flags | os.O_NONBLOCK)
+    except BlockingIOError:
+        _check_regular(os.stat(path), path)
+        return os.open(path, flags)
 
 
 def open_regular(path: Path, mode: str = "rb") -> Any:
     """Opens a file. A folder, a device or a pipe raises OSError, and isn't waited for."""
-    file = open(path, mode, opener=lambda name, flags: os.open(
-        name, flags | os.O_NONBLOCK | os.O_NOCTTY))
+    file = open(os.fspath(path), mode, opener=_open)
     try:
         _check_regular(os.fstat(file.fileno()), path)
     except BaseException:
@@ -100,8 +137,8 @@ def open_regular(path: Path, mode: str = "rb") -> Any:
 def read_whole(file: io.BufferedReader, head: bytes, size: int) -> Optional[bytearray]:
     """The bytes of a file of this size, of which the head was read. None: it has become shorter."""
     memory = bytearray(size)
-    memory[:len(head)] = head
-    with memoryview(memory)[len(head):] as rest:
+    memory[: len(head)] = head
+    with memoryview(memory)[len(head) :] as rest:
         return memory if file.readinto(rest) == len(rest) else None
 
 

@@ -14,8 +14,19 @@ from decimal import Decimal
 from fractions import Fraction
 from numbers import Real
 from typing import (
-    TYPE_CHECKING, Any, Callable, Dict, Iterable, List, NamedTuple, Optional, Tuple, Type, TypeVar,
-    Union)
+    TYPE_CHECKING,
+    Any,
+    Callable,
+    Dict,
+    Iterable,
+    List,
+    NamedTuple,
+    Optional,
+    Tuple,
+    Type,
+    TypeVar,
+    Union,
+)
 
 from . import _library as library
 from ._files import Path, map_file, open_regular, read_whole, write_file
@@ -125,8 +136,9 @@ def _read_head(head: bytes, call: Callable[..., int]) -> Tuple[int, int, bytes, 
     return words.value, hashes.value, key.raw, seal.value
 
 
-def _check_file(head: bytes, size: int, max_hashes: Optional[int],
-                call: Callable[..., int] = library.head_read) -> Tuple[int, int, bytes, int]:
+def _check_file(
+    head: bytes, size: int, max_hashes: Optional[int], call: Callable[..., int] = library.head_read
+) -> Tuple[int, int, bytes, int]:
     """What the first 64 bytes of a file of this size tell, if the file isn't refused for them.
 
     `call` reads heads of the kind of filters that is wanted.
@@ -222,15 +234,16 @@ class Filter:
         key = plain_bytes(key, "a key is a bytes-like object")
         self._set(bytearray(8 * words.value), 0, words.value, hashes.value, key)
 
-    def _set(self, memory: Buffer, offset: int, num_words: int, num_hashes: int,
-             key: bytes) -> None:
+    def _set(
+        self, memory: Buffer, offset: int, num_words: int, num_hashes: int, key: bytes
+    ) -> None:
         """Takes the words that lie in the memory, which has no other user."""
         if len(key) != 16:
             raise ValueError("a key is sixteen bytes")
         if hasattr(self, "_view"):  # a call under way may use the words that it has
             raise TypeError("a filter is made once")
         # The view keeps the memory where it is.
-        self._view = memoryview(memory)[offset:offset + 8 * num_words]
+        self._view = memoryview(memory)[offset : offset + 8 * num_words]
         self._at = ctypes.addressof(ctypes.c_char.from_buffer(self._view))
         assert self._at % 8 == 0
         self._num_words, self._num_hashes, self._key = num_words, num_hashes, key
@@ -266,14 +279,16 @@ class Filter:
         """
         data = bytes_of(item)
         return library.insert(
-            self._at, self._num_words, self._num_hashes, self._key, data, len(data))
+            self._at, self._num_words, self._num_hashes, self._key, data, len(data)
+        )
 
     @alone
     def __contains__(self, item: Item) -> bool:
         """Whether an item is contained. False: it was never added. True may be a false positive."""
         data = bytes_of(item)
         return library.contains(
-            self._at, self._num_words, self._num_hashes, self._key, data, len(data))
+            self._at, self._num_words, self._num_hashes, self._key, data, len(data)
+        )
 
     def hash(self, item: Item) -> int:
         """The hash of an item: SipHash-1-3 of its bytes under the key."""
@@ -283,14 +298,14 @@ class Filter:
     @alone
     def add_hash(self, value: int) -> bool:
         """As `add`, by the hash. One out of range raises ValueError."""
-        return library.insert_hash(
-            self._at, self._num_words, self._num_hashes, _hash_value(value))
+        return library.insert_hash(self._at, self._num_words, self._num_hashes, _hash_value(value))
 
     @alone
     def contains_hash(self, value: int) -> bool:
         """As `in`, by the hash. One out of range raises ValueError."""
         return library.contains_hash(
-            self._at, self._num_words, self._num_hashes, _hash_value(value))
+            self._at, self._num_words, self._num_hashes, _hash_value(value)
+        )
 
     # Many items
 
@@ -319,8 +334,12 @@ class Filter:
         An item that is refused, and a single `str` or bytes-like object, raise as in `update`.
         """
         answers: List[bool] = []
-        each_part(items, self._key, "in",
-                  lambda hashes: answers.extend(self._contains_hashed(hashes).tolist()))
+        each_part(
+            items,
+            self._key,
+            "in",
+            lambda hashes: answers.extend(self._contains_hashed(hashes).tolist()),
+        )
         return answers
 
     def add_hashes(self, hashes: Buffer) -> None:
@@ -348,8 +367,9 @@ class Filter:
 
     @alone
     def _add_hashed_tell_new(self, hashes: Hashes) -> Mask:
-        return told(library.insert_hashes_tell_new,
-                    (self._at, self._num_words, self._num_hashes), hashes)
+        return told(
+            library.insert_hashes_tell_new, (self._at, self._num_words, self._num_hashes), hashes
+        )
 
     @alone
     def clear(self) -> None:

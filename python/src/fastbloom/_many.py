@@ -17,8 +17,7 @@ AT_ONCE = 4096  # items that are hashed, and then added or looked up, by one cal
 Hashes = Tuple[Any, int]
 
 
-def each_part(items: Iterable[Item], key: bytes, call: str,
-              use: Callable[[Hashes], None]) -> None:
+def each_part(items: Iterable[Item], key: bytes, call: str, use: Callable[[Hashes], None]) -> None:
     """Uses the hashes of many items, part by part.
 
     Where the iterable raises, or an item is refused, the hashes of those before it are used first.
@@ -60,7 +59,9 @@ def _hashed(part: List[Any], data: bytes, key: bytes) -> Hashes:
     count = len(part)
     ends = array("Q", accumulate(map(len, part), initial=0))
     hashes = (ctypes.c_uint64 * count)()
-    if not library.hash_items(key, data, len(data), ends.buffer_info()[0], count + 1, hashes, count):
+    if not library.hash_items(
+        key, data, len(data), ends.buffer_info()[0], count + 1, hashes, count
+    ):
         raise AssertionError("the offsets are in order")
     return hashes, count
 
@@ -68,14 +69,21 @@ def _hashed(part: List[Any], data: bytes, key: bytes) -> Hashes:
 def words_of(hashes: Buffer) -> Hashes:
     """The unsigned words of 64 bits of a buffer, and how many. Others raise TypeError."""
     with memoryview(hashes) as view:
-        if view.ndim == 0 or view.itemsize != 8 or view.format not in ("Q", "L", "<Q", "<L", "=Q", "=L"):
+        if (
+            view.ndim == 0
+            or view.itemsize != 8
+            or view.format not in ("Q", "L", "<Q", "<L", "=Q", "=L")
+        ):
             raise TypeError("hashes are a buffer of unsigned words of 64 bits")
         if not view.contiguous:
             raise TypeError("hashes lie one behind the other")
         count = view.nbytes // 8
+        words = ctypes.c_uint64 * count
         if view.readonly or count == 0:
-            return (ctypes.c_uint64 * count).from_buffer_copy(view), count
-        return (ctypes.c_uint64 * count).from_buffer(view), count
+            return words.from_buffer_copy(view), count
+        lent = words.from_buffer(view)
+        aligned = ctypes.addressof(lent) % 8 == 0
+        return lent if aligned else words.from_buffer_copy(view), count
 
 
 def told(call: Callable[..., bool], before: Tuple[Any, ...], hashes: Hashes) -> Mask:

@@ -11,7 +11,15 @@ from typing import Any, Callable, Iterable, List, NoReturn, Union
 from . import _library as library
 from ._files import Path, map_file, open_regular, shared_memory
 from ._filter import (
-    _HEAD, Filter, Refusal, _check, _check_file, _hash_value, _number_of_items, _parts)
+    _HEAD,
+    Filter,
+    Refusal,
+    _check,
+    _check_file,
+    _hash_value,
+    _number_of_items,
+    _parts,
+)
 from ._items import Buffer, Item, Rate, bytes_of, check_many, plain_bytes
 from ._many import Hashes, each_part, told, words_of
 from ._mask import Mask
@@ -32,7 +40,7 @@ class SharedFilter:
     Items are those of `Filter`, which is quicker where one thread adds at a time.
     """
 
-    __slots__ = ("_owner", "_view", "_words", "_num_hashes", "_key", "__weakref__")
+    __slots__ = ("_view", "_words", "_num_hashes", "_key", "__weakref__")
 
     def __init__(self, items: int, rate: Rate, key: Buffer = bytes(16)) -> None:
         """The empty filter for this many items, at a rate of false positives: as `Filter`."""
@@ -82,17 +90,19 @@ class SharedFilter:
         key = plain_bytes(key, "a key is a bytes-like object")
         if len(key) != 16:
             raise ValueError("a key is sixteen bytes")
-        # The view keeps the memory where it is.
         view = memoryview(memory).cast("B")[offset:]
-        if view.nbytes == 0:
-            raise Refusal(_EMPTY_WORDS)
-        if view.nbytes // 8 >= 2**58:
-            raise Refusal(_TOO_MANY_WORDS)
-        at = ctypes.addressof(ctypes.c_char.from_buffer(view))
-        if view.nbytes % 8 or at % 8:
-            raise ValueError("words are of eight bytes, and aligned to eight")
-        self._owner, self._view = memory, view
-        self._words = library.SharedWords(at, view.nbytes // 8)
+        try:
+            if view.nbytes == 0:
+                raise Refusal(_EMPTY_WORDS)
+            if view.nbytes // 8 >= 2**58:
+                raise Refusal(_TOO_MANY_WORDS)
+            words = library.SharedWords(view)
+            if view.nbytes % 8 or words.words % 8:
+                raise ValueError("words are of eight bytes, and aligned to eight")
+        except BaseException:
+            view.release()  # or the error would keep the memory in use
+            raise
+        self._view, self._words = view, words
         self._num_hashes, self._key = num_hashes, key
 
     def release(self) -> None:
@@ -101,9 +111,8 @@ class SharedFilter:
         It then has no words: it contains nothing, and keeps nothing that is added. `load` and
         `take` raise Refusal.
         """
-        self._words = library.SharedWords(None, 0)
-        self._view.release()
-        self._owner = None
+        self._words = library.SharedWords(memoryview(b""))
+        self._view = self._words.memory
 
     @property
     def num_words(self) -> int:
@@ -183,8 +192,14 @@ class SharedFilter:
     def contains_many(self, items: Iterable[Item]) -> List[bool]:
         """Whether each item of an iterable is contained, in their order, many by one call."""
         answers: List[bool] = []
-        each_part(items, self._key, "in", lambda hashes: answers.extend(
-            self._tell(library.shared_contains_hashes, hashes).tolist()))
+        each_part(
+            items,
+            self._key,
+            "in",
+            lambda hashes: answers.extend(
+                self._tell(library.shared_contains_hashes, hashes).tolist()
+            ),
+        )
         return answers
 
     def add_hashes(self, hashes: Buffer) -> None:
@@ -230,12 +245,13 @@ class SharedFilter:
         return self._plain(library.shared_load)
 
     def _plain(self, call: Callable[..., bool]) -> Filter:
-        count = self.num_words
+        words = self._words
+        count = words.num_words
         if count == 0:  # it was released
             raise Refusal(_EMPTY_WORDS)
         plain = Filter.__new__(Filter)
         plain._set(bytearray(8 * count), 0, count, self._num_hashes, self._key)
-        call(self._words, plain._at, count)
+        call(words, plain._at, count)
         return plain
 
     def _check_shape(self, other: SharedFilter) -> None:
@@ -265,10 +281,11 @@ class SharedFilter:
         return self
 
     def __reduce__(self) -> NoReturn:
-        raise TypeError("a shared filter isn't pickled: hand its memory or its file on, or `load()`")
+        raise TypeError(
+            "a shared filter isn't pickled: hand its memory or its file on, or `load()`"
+        )
 
     def __repr__(self) -> str:
         """The size, and whether there is a key. The key itself isn't shown: it may be secret."""
         key = "a key" if any(self._key) else "the zero key"
         return f"<{type(self).__name__}: {self.num_bits} bits, {self._num_hashes} hashes, {key}>"
-
