@@ -125,8 +125,8 @@ fn insert_together<W: TurnWords>(words: &W, num_hashes: u32, hashes: &[u64])
     load_then_insert(words, num_hashes, &hashes[LINES_TOGETHER * turns..]);
 }
 
-/// Inserts each of these hashes, in order. Where the words are one mebibyte or more, the ends of the
-/// lines of 64 hashes are loaded before the first is inserted.
+/// Inserts each of these hashes, in order. Where the words are one mebibyte or more, the ends of
+/// the lines of 64 hashes are loaded before the first is inserted.
 #[inline(always)]
 pub fn insert_hashes<W: TurnWords>(words: &W, num_hashes: u32, hashes: &[u64])
     requires { 8 ≤ (W.vector words.now).count }
