@@ -109,9 +109,7 @@ def words_of(mask):
 
 
 def plain(lines, num_hashes):
-    seen = BlockedFilter.__new__(BlockedFilter)
-    seen._set(lines, num_hashes, bytes(16))
-    return seen
+    return shared(lines, num_hashes).take()
 
 
 def shared(lines, num_hashes):
@@ -245,7 +243,7 @@ class Blocked(unittest.TestCase):
             self.assertIn("whale", seen)
 
     def test_a_pickle_of_no_filter_is_refused(self):
-        restored = fastbloom._blocked._restored
+        restored = fastbloom._plain._restored_words
         for hashes, words in ((0, bytes(64)), (2**32, bytes(64)), (1, b""), (1, bytes(65))):
             self.assertRaises(ValueError, restored, BlockedFilter, hashes, bytes(16), words)
         self.assertRaises(ValueError, restored, BlockedFilter, 1, bytes(15), bytes(64))
@@ -291,7 +289,7 @@ class Files(unittest.TestCase):
         for read in self.readers(WORKED):
             seen = read()
             self.assertEqual((seen.num_lines, seen.num_hashes, seen.key), (1, 3, COUNTING_KEY))
-            self.assertEqual(seen._at % 64, 0)
+            self.assertEqual(seen._words[0] % 64, 0)
             self.assertEqual(seen.contains_many(["crab", "lobster", "whale"]), [True, True, False])
             self.assertEqual(seen.to_bytes(), WORKED)
             seen.clear()
@@ -387,7 +385,7 @@ class Shared(unittest.TestCase):
         self.assertEqual(
             (seen.num_words, seen.num_lines, seen.num_bits, seen.num_hashes), (248, 31, 15872, 9)
         )
-        self.assertEqual((seen._words.words % 64, seen.key), (0, bytes(range(16))))
+        self.assertEqual((seen._words[0].words % 64, seen.key), (0, bytes(range(16))))
         self.assertEqual(repr(seen), "<SharedBlockedFilter: 15872 bits, 9 hashes, a key>")
 
     def test_items(self):

@@ -241,13 +241,13 @@ class Many(unittest.TestCase):
 
     def test_a_look_up_of_many_is_one_call_for_each_4096(self):
         calls, seen = [], small()
-        found = library.contains_hashes
+        found = library.PLAIN.contains_hashes
 
         def told(*arguments):
             calls.append(arguments[4])
             return found(*arguments)
 
-        with mock.patch.object(library, "contains_hashes", told):
+        with mock.patch.object(library.PLAIN, "contains_hashes", told):
             seen.contains_many(f"item{number}" for number in range(10_000))
         self.assertEqual(calls, [4096, 4096, 10_000 - 2 * 4096])
 
@@ -503,7 +503,7 @@ class Types(unittest.TestCase):
             typing.get_type_hints(call)
         self.assertIs(typing.get_type_hints(Filter.add)["return"], bool)
         self.assertIn(str, typing.get_args(typing.get_type_hints(Filter.add)["item"]))
-        self.assertIn("_num_words", typing.get_type_hints(Filter))
+        self.assertIn("_num_hashes", typing.get_type_hints(Filter))
 
 
 class Sets(unittest.TestCase):

@@ -181,16 +181,10 @@ class Hashes(unittest.TestCase):
             pointers.append(arguments[-2])
             return True
 
-        for cls, kind in (
-            (Filter, ""),
-            (SharedFilter, "shared_"),
-            (BlockedFilter, "blocked_"),
-            (SharedBlockedFilter, "blocked_shared_"),
-        ):
+        for cls in (Filter, SharedFilter, BlockedFilter, SharedBlockedFilter):
             seen = cls(10, "1/1000")
-            with mock.patch.object(library, f"{kind}contains_hashes", call), mock.patch.object(
-                library, f"{kind}insert_hashes_tell_new", call
-            ):
+            names = ("contains_hashes", "insert_hashes_tell_new")
+            with mock.patch.multiple(seen._calls, **dict.fromkeys(names, call)):
                 self.assertEqual(seen.contains_hashes(array.array("Q")), [])
                 self.assertEqual(seen.add_hashes_tell_new(array.array("Q")), [])
                 self.assertRaises(KeyError, seen.contains_many, raising())
@@ -404,7 +398,7 @@ class Memory(unittest.TestCase):
         self.assertEqual(pickle.loads(data, buffers=buffers), seen)
 
     def test_a_pickle_of_no_filter_is_refused(self):
-        restored = fastbloom._filter._restored_words
+        restored = fastbloom._plain._restored_words
         for hashes, words in ((0, bytes(8)), (2**32, bytes(8)), (1, b""), (1, bytes(9))):
             self.assertRaises(ValueError, restored, Filter, hashes, bytes(16), words)
         self.assertRaises(ValueError, restored, Filter, 1, bytes(15), bytes(8))

@@ -60,8 +60,7 @@ class Threads(unittest.TestCase):
     @classmethod
     def setUpClass(cls):
         cls.hashes = hashes_of(HASHES)
-        cls.plain = Filter.__new__(Filter)
-        cls.plain._set(bytearray(8 * WORDS), 0, WORDS, 1, bytes(16))
+        cls.plain = zeros().take()
         for value in cls.hashes:
             cls.plain.add_hash(value)
 
@@ -139,8 +138,7 @@ class Processes(unittest.TestCase):
         try:
             self.assertEqual(run_workers(fill_memory, memory.name, words), [0] * WORKERS)
             seen = SharedFilter.over(memory.buf[: 8 * words], 3)
-            plain = Filter.__new__(Filter)
-            plain._set(bytearray(8 * words), 0, words, 3, bytes(16))
+            plain = zeros(words, 3).take()
             plain.update(b"%d" % number for number in range(20_000))
             self.assertEqual(seen.load(), plain)
             seen.release()

@@ -63,12 +63,12 @@ def seconds(call, pieces, threads):
 
 def tell_plain(plain, lists, buffers_of_hashes):
     """Prints what two calls of a `Filter` cost, of all rounds the best of each."""
-    shape = plain._at, plain._num_words, plain._num_hashes
+    shape = *plain._words, plain.num_hashes
     found = (ctypes.c_uint64 * ((len(buffers_of_hashes[0]) + 63) // 64))()
     given = [(ctypes.c_uint64 * len(it)).from_buffer(it) for it in buffers_of_hashes]
 
     def look_in_c(words):
-        library.contains_hashes(*shape, words, len(words), found, len(found))
+        library.PLAIN.contains_hashes(*shape, words, len(words), found, len(found))
 
     updates, looks, looks_in_c = [], [], []
     for _ in range(ROUNDS):

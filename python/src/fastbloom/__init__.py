@@ -15,12 +15,12 @@ the shared library fastbloom_c; importing the package raises ImportError where t
 """
 
 from ._blocked import BlockedFilter
-from ._blocked_shared import SharedBlockedFilter
-from ._filter import Estimate, Filter, Refusal
+from ._checks import Refusal
+from ._filter import Estimate, Filter
 from ._mask import Mask
 from ._protocols import AnyFilter
 from ._rotating import RotatingFilter
-from ._shared import SharedFilter
+from ._shared import SharedBlockedFilter, SharedFilter
 
 __version__ = "0.17.0+rattle.1"
 __all__ = [

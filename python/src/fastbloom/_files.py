@@ -12,7 +12,7 @@ import stat
 import sys
 from typing import Any, Optional, Union
 
-Path = Union[str, bytes, "os.PathLike[str]", "os.PathLike[bytes]"]
+Path = Union[str, bytes, os.PathLike[str], os.PathLike[bytes]]
 
 # How many bytes of a name are taken into that of the file beside it, which has 255 at most.
 _LONGEST_NAME = 255 - len(".0123456789abcdef.part")
@@ -134,12 +134,9 @@ def open_regular(path: Path, mode: str = "rb") -> Any:
     return file
 
 
-def read_whole(file: io.BufferedReader, head: bytes, size: int) -> Optional[bytearray]:
-    """The bytes of a file of this size, of which the head was read. None: it has become shorter."""
-    memory = bytearray(size)
-    memory[: len(head)] = head
-    with memoryview(memory)[len(head) :] as rest:
-        return memory if file.readinto(rest) == len(rest) else None
+def size_of(file: io.BufferedReader) -> int:
+    """How many bytes a file has."""
+    return os.fstat(file.fileno()).st_size
 
 
 def map_file(file: io.BufferedReader, size: int, access: int = mmap.ACCESS_COPY) -> mmap.mmap:
@@ -148,7 +145,7 @@ def map_file(file: io.BufferedReader, size: int, access: int = mmap.ACCESS_COPY)
 
 
 def shared_memory(size: int) -> mmap.mmap:
-    """Memory that a process shares with those that are forked of it, all zero, at a page's begin."""
+    """Memory that a process shares with those that are forked of it, all zero, from a page on."""
     try:
         return mmap.mmap(-1, size)
     except (OSError, OverflowError, ValueError) as error:

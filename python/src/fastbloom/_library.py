@@ -56,89 +56,6 @@ def _call(name: str, result: Any, *kinds: Any, library: ctypes.CDLL = _KEEPING) 
     return call
 
 
-plan: Callable[..., int] = _call("plan", _CODE, _HASH, _HASH, _SIZE, _TO_SIZE, _TO_HASHES)
-hash_of: Callable[..., int] = _call("hash", _HASH, _BYTES, _BYTES, _SIZE)
-insert_hash: Callable[..., bool] = _call("insert_hash", _BOOL, _WORDS, _SIZE, _HASHES, _HASH)
-insert_hashes: Callable[..., bool] = _call(
-    "insert_hashes", _BOOL, _WORDS, _SIZE, _HASHES, _MANY, _SIZE
-)
-contains_hash: Callable[..., bool] = _call("contains_hash", _BOOL, _WORDS, _SIZE, _HASHES, _HASH)
-contains_hashes: Callable[..., bool] = _call(
-    "contains_hashes", _BOOL, _WORDS, _SIZE, _HASHES, _MANY, _SIZE, _MANY, _SIZE
-)
-insert_hashes_tell_new: Callable[..., bool] = _call(
-    "insert_hashes_tell_new", _BOOL, _WORDS, _SIZE, _HASHES, _MANY, _SIZE, _MANY, _SIZE
-)
-insert: Callable[..., bool] = _call("insert", _BOOL, _WORDS, _SIZE, _HASHES, _BYTES, _BYTES, _SIZE)
-contains: Callable[..., bool] = _call(
-    "contains", _BOOL, _WORDS, _SIZE, _HASHES, _BYTES, _BYTES, _SIZE
-)
-clear: Callable[..., bool] = _call("clear", _BOOL, _WORDS, _SIZE)
-union: Callable[..., bool] = _call("union", _BOOL, _WORDS, _SIZE, _WORDS, _SIZE)
-intersect: Callable[..., bool] = _call("intersect", _BOOL, _WORDS, _SIZE, _WORDS, _SIZE)
-equal: Callable[..., bool] = _call("equal", _BOOL, _WORDS, _SIZE, _WORDS, _SIZE)
-count_ones: Callable[..., int] = _call("count_ones", _SIZE, _WORDS, _SIZE)
-expected_rate: Callable[..., int] = _call(
-    "expected_rate", _CODE, _SIZE, _HASHES, _SIZE, _MANY, _MANY
-)
-rate_bounds: Callable[..., int] = _call("rate_bounds", _CODE, _SIZE, _HASHES, _SIZE, _MANY, _MANY)
-rate_now: Callable[..., bool] = _call("rate_now", _BOOL, _WORDS, _SIZE, _HASHES, _MANY, _MANY)
-estimate: Callable[..., bool] = _call("estimate", _BOOL, _WORDS, _SIZE, _HASHES, _TO_SIZE, _TO_SIZE)
-estimate_union: Callable[..., bool] = _call(
-    "estimate_union", _BOOL, _WORDS, _SIZE, _WORDS, _SIZE, _HASHES, _TO_SIZE, _TO_SIZE
-)
-estimate_common: Callable[..., bool] = _call(
-    "estimate_common", _BOOL, _WORDS, _SIZE, _WORDS, _SIZE, _HASHES, _TO_SIZE, _TO_SIZE
-)
-jaccard: Callable[..., bool] = _call(
-    "jaccard", _BOOL, _WORDS, _SIZE, _WORDS, _SIZE, _HASHES, _MANY, _MANY
-)
-head_write: Callable[..., int] = _call("head_write", _CODE, _SIZE, _HASHES, _BYTES, _HASH, _WORDS)
-head_read: Callable[..., int] = _call(
-    "head_read", _CODE, _BYTES, _TO_SIZE, _TO_HASHES, _BYTES, _MANY
-)
-# These touch no filter's words, so other threads may go on meanwhile.
-hash_items: Callable[..., bool] = _call(
-    "hash_items", _BOOL, _BYTES, _BYTES, _SIZE, _WORDS, _SIZE, _MANY, _SIZE, library=_LETTING_GO
-)
-seal: Callable[..., int] = _call("seal", _HASH, _WORDS, _SIZE, _HASHES, _BYTES, library=_LETTING_GO)
-
-# Those on blocked filters.
-blocked_plan: Callable[..., int] = _call(
-    "blocked_plan", _CODE, _HASH, _HASH, _SIZE, _TO_SIZE, _TO_HASHES
-)
-blocked_insert_hash: Callable[..., bool] = _call(
-    "blocked_insert_hash", _BOOL, _WORDS, _SIZE, _HASHES, _HASH
-)
-blocked_insert_hashes: Callable[..., bool] = _call(
-    "blocked_insert_hashes", _BOOL, _WORDS, _SIZE, _HASHES, _MANY, _SIZE
-)
-blocked_contains_hash: Callable[..., bool] = _call(
-    "blocked_contains_hash", _BOOL, _WORDS, _SIZE, _HASHES, _HASH
-)
-blocked_contains_hashes: Callable[..., bool] = _call(
-    "blocked_contains_hashes", _BOOL, _WORDS, _SIZE, _HASHES, _MANY, _SIZE, _MANY, _SIZE
-)
-blocked_insert_hashes_tell_new: Callable[..., bool] = _call(
-    "blocked_insert_hashes_tell_new", _BOOL, _WORDS, _SIZE, _HASHES, _MANY, _SIZE, _MANY, _SIZE
-)
-blocked_insert: Callable[..., bool] = _call(
-    "blocked_insert", _BOOL, _WORDS, _SIZE, _HASHES, _BYTES, _BYTES, _SIZE
-)
-blocked_contains: Callable[..., bool] = _call(
-    "blocked_contains", _BOOL, _WORDS, _SIZE, _HASHES, _BYTES, _BYTES, _SIZE
-)
-blocked_head_write: Callable[..., int] = _call(
-    "blocked_head_write", _CODE, _SIZE, _HASHES, _BYTES, _HASH, _WORDS
-)
-blocked_head_read: Callable[..., int] = _call(
-    "blocked_head_read", _CODE, _BYTES, _TO_SIZE, _TO_HASHES, _BYTES, _MANY
-)
-blocked_seal: Callable[..., int] = _call(
-    "blocked_seal", _HASH, _WORDS, _SIZE, _HASHES, _BYTES, library=_LETTING_GO
-)
-
-
 class SharedWords(ctypes.Structure):
     """Words that threads and processes share, as the calls on them take them.
 
@@ -154,53 +71,79 @@ class SharedWords(ctypes.Structure):
         self.memory = memory
 
 
-def _shared(name: str, result: Any, *kinds: Any) -> Any:
-    """A call on words that are shared, which needs no lock."""
-    return _call("shared_" + name, result, SharedWords, *kinds, library=_LETTING_GO)
+class Calls:
+    """The calls on one kind of filters. First they take the words: address and number, or shared.
+
+    Those on plain words keep the interpreter's lock, and those on shared ones need none.
+    """
+
+    def __init__(self, kind: str, shared: bool) -> None:
+        words = (SharedWords,) if shared else (_WORDS, _SIZE)
+        library = _LETTING_GO if shared else _KEEPING
+        prefix = "shared_" if shared else ""
+
+        def call(name: str, *kinds: Any) -> Callable[..., bool]:
+            found: Callable[..., bool] = _call(name, _BOOL, *words, *kinds, library=library)
+            return found
+
+        def of_kind(name: str, *kinds: Any) -> Callable[..., bool]:
+            return call(f"{kind}{prefix}{name}", _HASHES, *kinds)
+
+        self.insert = of_kind("insert", _BYTES, _BYTES, _SIZE)
+        self.contains = of_kind("contains", _BYTES, _BYTES, _SIZE)
+        self.insert_hash = of_kind("insert_hash", _HASH)
+        self.contains_hash = of_kind("contains_hash", _HASH)
+        self.insert_hashes = of_kind("insert_hashes", _MANY, _SIZE)
+        self.contains_hashes = of_kind("contains_hashes", _MANY, _SIZE, _MANY, _SIZE)
+        self.insert_hashes_tell_new = of_kind("insert_hashes_tell_new", _MANY, _SIZE, _MANY, _SIZE)
+        self.clear = call(f"{prefix}clear")
+        self.union = call(f"{prefix}union", *words)
+        self.intersect = call(f"{prefix}intersect", *words)
+        self.count_ones: Callable[..., int] = _call(
+            f"{prefix}count_ones", _SIZE, *words, library=library
+        )
+        self.plan: Callable[..., int] = _call(
+            f"{kind}plan", _CODE, _HASH, _HASH, _SIZE, _TO_SIZE, _TO_HASHES
+        )
+        self.head_write: Callable[..., int] = _call(
+            f"{kind}head_write", _CODE, _SIZE, _HASHES, _BYTES, _HASH, _WORDS
+        )
+        self.head_read: Callable[..., int] = _call(
+            f"{kind}head_read", _CODE, _BYTES, _TO_SIZE, _TO_HASHES, _BYTES, _MANY
+        )
+        # This touches no filter's words, so other threads may go on meanwhile.
+        self.seal: Callable[..., int] = _call(
+            f"{kind}seal", _HASH, _WORDS, _SIZE, _HASHES, _BYTES, library=_LETTING_GO
+        )
 
 
-def _blocked_shared(name: str, result: Any, *kinds: Any) -> Any:
-    """A call on a blocked filter's words that are shared."""
-    return _call("blocked_shared_" + name, result, SharedWords, *kinds, library=_LETTING_GO)
+PLAIN, SHARED = Calls("", False), Calls("", True)
+BLOCKED, BLOCKED_SHARED = Calls("blocked_", False), Calls("blocked_", True)
 
-
-shared_insert_hash: Callable[..., bool] = _shared("insert_hash", _BOOL, _HASHES, _HASH)
-shared_contains_hash: Callable[..., bool] = _shared("contains_hash", _BOOL, _HASHES, _HASH)
-shared_insert: Callable[..., bool] = _shared("insert", _BOOL, _HASHES, _BYTES, _BYTES, _SIZE)
-shared_contains: Callable[..., bool] = _shared("contains", _BOOL, _HASHES, _BYTES, _BYTES, _SIZE)
-shared_insert_hashes: Callable[..., bool] = _shared("insert_hashes", _BOOL, _HASHES, _MANY, _SIZE)
-shared_contains_hashes: Callable[..., bool] = _shared(
-    "contains_hashes", _BOOL, _HASHES, _MANY, _SIZE, _MANY, _SIZE
+hash_of: Callable[..., int] = _call("hash", _HASH, _BYTES, _BYTES, _SIZE)
+# This touches no filter's words either.
+hash_items: Callable[..., bool] = _call(
+    "hash_items", _BOOL, _BYTES, _BYTES, _SIZE, _WORDS, _SIZE, _MANY, _SIZE, library=_LETTING_GO
 )
-shared_insert_hashes_tell_new: Callable[..., bool] = _shared(
-    "insert_hashes_tell_new", _BOOL, _HASHES, _MANY, _SIZE, _MANY, _SIZE
+equal: Callable[..., bool] = _call("equal", _BOOL, _WORDS, _SIZE, _WORDS, _SIZE)
+shared_take: Callable[..., bool] = _call(
+    "shared_take", _BOOL, SharedWords, _WORDS, _SIZE, library=_LETTING_GO
 )
-shared_clear: Callable[..., bool] = _shared("clear", _BOOL)
-shared_union: Callable[..., bool] = _shared("union", _BOOL, SharedWords)
-shared_intersect: Callable[..., bool] = _shared("intersect", _BOOL, SharedWords)
-shared_take: Callable[..., bool] = _shared("take", _BOOL, _WORDS, _SIZE)
-shared_load: Callable[..., bool] = _shared("load", _BOOL, _WORDS, _SIZE)
-shared_count_ones: Callable[..., int] = _shared("count_ones", _SIZE)
-
-# Those on blocked filters that are shared. The calls on all words are the ones above.
-blocked_shared_insert_hash: Callable[..., bool] = _blocked_shared(
-    "insert_hash", _BOOL, _HASHES, _HASH
+shared_load: Callable[..., bool] = _call(
+    "shared_load", _BOOL, SharedWords, _WORDS, _SIZE, library=_LETTING_GO
 )
-blocked_shared_contains_hash: Callable[..., bool] = _blocked_shared(
-    "contains_hash", _BOOL, _HASHES, _HASH
+expected_rate: Callable[..., int] = _call(
+    "expected_rate", _CODE, _SIZE, _HASHES, _SIZE, _MANY, _MANY
 )
-blocked_shared_insert: Callable[..., bool] = _blocked_shared(
-    "insert", _BOOL, _HASHES, _BYTES, _BYTES, _SIZE
+rate_bounds: Callable[..., int] = _call("rate_bounds", _CODE, _SIZE, _HASHES, _SIZE, _MANY, _MANY)
+rate_now: Callable[..., bool] = _call("rate_now", _BOOL, _WORDS, _SIZE, _HASHES, _MANY, _MANY)
+estimate: Callable[..., bool] = _call("estimate", _BOOL, _WORDS, _SIZE, _HASHES, _TO_SIZE, _TO_SIZE)
+estimate_union: Callable[..., bool] = _call(
+    "estimate_union", _BOOL, _WORDS, _SIZE, _WORDS, _SIZE, _HASHES, _TO_SIZE, _TO_SIZE
 )
-blocked_shared_contains: Callable[..., bool] = _blocked_shared(
-    "contains", _BOOL, _HASHES, _BYTES, _BYTES, _SIZE
+estimate_common: Callable[..., bool] = _call(
+    "estimate_common", _BOOL, _WORDS, _SIZE, _WORDS, _SIZE, _HASHES, _TO_SIZE, _TO_SIZE
 )
-blocked_shared_insert_hashes: Callable[..., bool] = _blocked_shared(
-    "insert_hashes", _BOOL, _HASHES, _MANY, _SIZE
-)
-blocked_shared_contains_hashes: Callable[..., bool] = _blocked_shared(
-    "contains_hashes", _BOOL, _HASHES, _MANY, _SIZE, _MANY, _SIZE
-)
-blocked_shared_insert_hashes_tell_new: Callable[..., bool] = _blocked_shared(
-    "insert_hashes_tell_new", _BOOL, _HASHES, _MANY, _SIZE, _MANY, _SIZE
+jaccard: Callable[..., bool] = _call(
+    "jaccard", _BOOL, _WORDS, _SIZE, _WORDS, _SIZE, _HASHES, _MANY, _MANY
 )

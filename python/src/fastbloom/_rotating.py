@@ -6,7 +6,8 @@ import threading
 from fractions import Fraction
 from typing import Any, Tuple
 
-from ._filter import Filter, _number_of_items, _parts
+from ._checks import number_of_items, rate_parts
+from ._filter import Filter
 from ._items import Buffer, Item, Rate
 from ._rates import rounded_outward
 
@@ -36,8 +37,8 @@ class RotatingFilter:
         """
         if hasattr(self, "_lock"):  # a call under way may use the filters that it has
             raise TypeError("a filter is made once")
-        self._items, self._taken = _number_of_items(items), 0
-        num, den = _parts(rate)
+        self._items, self._taken = number_of_items(items), 0
+        num, den = rate_parts(rate)
         self._newer = Filter(self._items, Fraction(num, 2 * den), key)
         self._older = self._newer.copy()
         self._lock = threading.RLock()

@@ -1,291 +1,170 @@
-"""The class of filters that threads and processes share."""
+"""The classes of filters that threads and processes share."""
 
 from __future__ import annotations
 
-import ctypes
+import contextlib
 import mmap
-import operator
-import os
-from typing import Any, Callable, Iterable, List, NoReturn, Union
+from typing import Any, Callable, ClassVar, Generic, NoReturn, Optional, Tuple, Type, TypeVar
 
 from . import _library as library
-from ._files import Path, map_file, open_regular, shared_memory
-from ._filter import (
-    _HEAD,
-    Filter,
-    Refusal,
-    _check,
-    _check_file,
-    _hash_value,
-    _number_of_items,
-    _parts,
-)
-from ._items import Buffer, Item, Rate, bytes_of, check_many, plain_bytes
-from ._many import Hashes, each_part, told, words_of
-from ._mask import Mask
+from ._base import Base, Kind, Self
+from ._blocked import BlockedFilter, Lines
+from ._checks import EMPTY_WORDS, HEAD, TOO_MANY_WORDS, Refusal, check_file, number_of_hashes
+from ._files import Path, map_file, open_regular, shared_memory, size_of
+from ._filter import Filter, Words
+from ._items import Buffer
+from ._plain import Plain
 
-_EMPTY_WORDS, _TOO_MANY_WORDS = 2, 3
+OfWords = TypeVar("OfWords", bound=Plain[Any])  # what is taken out
+_ALIGNED = {
+    8: "words are of eight bytes, and aligned to eight",
+    64: "lines are of 64 bytes, and aligned to eight",
+}
 
 
-class SharedFilter:
-    """A set of texts or bytes that threads and processes fill at once, and that loses nothing.
+class Shared(Base[Kind], Generic[Kind, OfWords]):
+    """A filter that threads and processes fill at once, and that loses nothing.
 
     Each call is made of atomic operations on single words. It takes no lock, waits for no thread,
     and lets the interpreter's lock go while it runs. An add's `|` on a word is tried again only
-    where another thread changed that word in between, so some thread always gets on. The words are memory of the filter's own, which
-    processes share that are forked of this one; or a buffer, as of `multiprocessing.shared_memory`,
-    by `over`; or a file, by `map`. While any process uses such words, nothing but shared filters
-    touches them.
-
-    Items are those of `Filter`, which is quicker where one thread adds at a time.
+    where another thread changed that word in between, so some thread always gets on. The words are
+    memory of the filter's own, which processes share that are forked of this one; or a buffer, as
+    of `multiprocessing.shared_memory`, by `over`; or a file, by `map`. While any process uses such
+    words, nothing but shared filters touches them.
     """
 
-    __slots__ = ("_view", "_words", "_num_hashes", "_key", "__weakref__")
-
-    def __init__(self, items: int, rate: Rate, key: Buffer = bytes(16)) -> None:
-        """The empty filter for this many items, at a rate of false positives: as `Filter`."""
-        items = _number_of_items(items)
-        num, den = _parts(rate)
-        words, hashes = ctypes.c_size_t(), ctypes.c_uint32()
-        _check(library.plan(num, den, items, words, hashes))
-        self._set(shared_memory(8 * words.value), 0, hashes.value, key)
+    __slots__ = ()
+    _plain: ClassVar[Type[Plain[Any]]]
+    _new_lock = staticmethod(contextlib.nullcontext)
 
     @classmethod
-    def over(cls, buffer: Buffer, num_hashes: int, key: Buffer = bytes(16)) -> SharedFilter:
+    def _new_memory(cls, num_words: int) -> memoryview:
+        return memoryview(shared_memory(8 * num_words))
+
+    @staticmethod
+    def _words_in(view: memoryview) -> Tuple[library.SharedWords]:
+        return (library.SharedWords(view),)
+
+    @classmethod
+    def over(cls, buffer: Buffer, num_hashes: int, key: Buffer = bytes(16)) -> Self:
         """The filter over the words of a buffer that can be written, with what they contain.
 
         A process that has the same memory mapped fills the same filter. The buffer stays in use
-        until `release`. ValueError: its bytes aren't words of 64 bits, or aren't aligned to 8, or a
-        number is out of range. TypeError: it can't be written, or the number is no integer.
+        until `release`. ValueError: its bytes aren't words of 64 bits, or lines of 64 bytes where
+        the filter is blocked, or aren't aligned to 8, or a number is out of range. Lines are best
+        aligned to 64. TypeError: it can't be written, or the number is no integer.
         """
-        num_hashes = operator.index(num_hashes)
-        if not 1 <= num_hashes < 2**32:
-            raise ValueError("hashes are from 1 to 2^32 - 1")
-        made = cls.__new__(cls)
-        made._set(buffer, 0, num_hashes, key)
-        return made
+        return cls._over(memoryview(buffer).cast("B"), number_of_hashes(num_hashes), key)
 
     @classmethod
-    def map(cls, path: Path, *, max_hashes: int = 64) -> SharedFilter:
+    def map(
+        cls, path: Path, *, max_hashes: Optional[int] = 64, max_words: Optional[int] = None
+    ) -> Self:
         """The filter of a file, whose words all processes fill that map it.
 
         What is added goes into the file. It must have no seal, which adds would make wrong: make it
-        by `Filter.save(path, sealed=False)`. A seal raises ValueError; else it raises as
-        `Filter.load`. Where the disk is full, an add into a hole of the file ends the process by a
-        signal, and so may any add where the file system copies what is written.
+        by `save(path, sealed=False)`. A seal raises ValueError; else it raises as `Filter.load`.
+        Where the disk is full, an add into a hole of the file ends the process by a signal, and so
+        may any add where the file system copies what is written.
         """
         with open_regular(path, "r+b") as file:
-            head, size = file.read(_HEAD), os.fstat(file.fileno()).st_size
-            _, num_hashes, key, seal = _check_file(head, size, max_hashes)
+            head, size = file.read(HEAD), size_of(file)
+            _, num_hashes, key, seal = check_file(head, size, cls._calls, max_hashes, max_words)
             if seal:
                 raise ValueError("the file has a seal, which adds would make wrong")
             memory = map_file(file, size, mmap.ACCESS_WRITE)
-        made = cls.__new__(cls)
-        made._set(memory, _HEAD, num_hashes, key)
-        return made
+        return cls._over(memoryview(memory)[HEAD:], num_hashes, key)
 
-    def _set(self, memory: Any, offset: int, num_hashes: int, key: Buffer) -> None:
-        if hasattr(self, "_view"):
-            raise TypeError("a filter is made once")
-        key = plain_bytes(key, "a key is a bytes-like object")
-        if len(key) != 16:
-            raise ValueError("a key is sixteen bytes")
-        view = memoryview(memory).cast("B")[offset:]
+    @classmethod
+    def _over(cls, view: memoryview, num_hashes: int, key: Buffer) -> Self:
         try:
             if view.nbytes == 0:
-                raise Refusal(_EMPTY_WORDS)
+                raise Refusal(EMPTY_WORDS)
             if view.nbytes // 8 >= 2**58:
-                raise Refusal(_TOO_MANY_WORDS)
-            words = library.SharedWords(view)
-            if view.nbytes % 8 or words.words % 8:
-                raise ValueError("words are of eight bytes, and aligned to eight")
+                raise Refusal(TOO_MANY_WORDS)
+            made = cls._of(view, num_hashes, key)
+            if view.nbytes % cls._unit or made._words[0].words % 8:
+                raise ValueError(_ALIGNED[cls._unit])
         except BaseException:
             view.release()  # or the error would keep the memory in use
             raise
-        self._view, self._words = view, words
-        self._num_hashes, self._key = num_hashes, key
+        return made
 
     def release(self) -> None:
-        """Lets go of the buffer, once no other thread uses the filter.
+        """Lets go of the buffer. A call that is under way ends with the words that it has.
 
-        It then has no words: it contains nothing, and keeps nothing that is added. `load` and
-        `take` raise Refusal.
+        The filter then has no words: it contains nothing, and keeps nothing that is added. `load`
+        and `take` raise Refusal. The buffer can be closed once no call is under way.
         """
-        self._words = library.SharedWords(memoryview(b""))
-        self._view = self._words.memory
+        self._view = memoryview(b"")
+        self._words = self._words_in(self._view)
 
-    @property
-    def num_words(self) -> int:
-        """The number of words of 64 bits."""
-        return int(self._words.num_words)
-
-    @property
-    def num_bits(self) -> int:
-        """The number of bits."""
-        return 64 * self.num_words
-
-    @property
-    def num_hashes(self) -> int:
-        """The number of positions that an item has."""
-        return self._num_hashes
-
-    @property
-    def key(self) -> bytes:
-        """The sixteen bytes of the key."""
-        return self._key
-
-    # One item
-
-    def add(self, item: Item) -> bool:
-        """Adds an item, and returns whether all its bits were found set.
-
-        So it returns False exactly if this call set a bit itself.
-        """
-        data = bytes_of(item)
-        return library.shared_insert(self._words, self._num_hashes, self._key, data, len(data))
-
-    def __contains__(self, item: Item) -> bool:
-        """Whether an item is contained. True may be a false positive.
-
-        While no call clears bits, False means that no add of it had returned when this call began.
-        """
-        data = bytes_of(item)
-        return library.shared_contains(self._words, self._num_hashes, self._key, data, len(data))
-
-    def hash(self, item: Item) -> int:
-        """The hash of an item: SipHash-1-3 of its bytes under the key."""
-        data = bytes_of(item)
-        return library.hash_of(self._key, data, len(data))
-
-    def add_hash(self, value: int) -> bool:
-        """As `add`, by the hash. One out of range raises ValueError."""
-        value = _hash_value(value)  # whose `__index__` may release the words
-        return library.shared_insert_hash(self._words, self._num_hashes, value)
-
-    def contains_hash(self, value: int) -> bool:
-        """As `in`, by the hash. One out of range raises ValueError."""
-        value = _hash_value(value)
-        return library.shared_contains_hash(self._words, self._num_hashes, value)
-
-    # Many items
-
-    def update(self, *others: Union[SharedFilter, Iterable[Item]]) -> None:
-        """Adds each item of the iterables, many by one call. It takes and raises as `Filter.update`.
-
-        A shared filter among them is taken in, word by word.
-        """
-        for other in others:
-            if isinstance(other, SharedFilter):
-                self._check_shape(other)
-            else:
-                check_many(other, "add")
-                iter(other)
-        for other in others:
-            if isinstance(other, SharedFilter):
-                self._change(other, library.shared_union)
-            else:
-                each_part(other, self._key, "add", self._add_hashed)
-
-    def _add_hashed(self, hashes: Hashes) -> None:
-        library.shared_insert_hashes(self._words, self._num_hashes, *hashes)
-
-    def contains_many(self, items: Iterable[Item]) -> List[bool]:
-        """Whether each item of an iterable is contained, in their order, many by one call."""
-        answers: List[bool] = []
-        each_part(
-            items,
-            self._key,
-            "in",
-            lambda hashes: answers.extend(
-                self._tell(library.shared_contains_hashes, hashes).tolist()
-            ),
-        )
-        return answers
-
-    def add_hashes(self, hashes: Buffer) -> None:
-        """Adds each hash of a buffer of words of 64 bits, as of an array, by one call.
-
-        Threads that call it with buffers of their own run side by side. No thread changes the
-        buffer meanwhile.
-        """
-        self._add_hashed(words_of(hashes))
-
-    def contains_hashes(self, hashes: Buffer) -> Mask:
-        """Whether each hash of a buffer of words of 64 bits is contained, by one call."""
-        return self._tell(library.shared_contains_hashes, words_of(hashes))
-
-    def add_hashes_tell_new(self, hashes: Buffer) -> Mask:
-        """Adds each hash of a buffer of words of 64 bits, and tells which of the adds set a bit."""
-        return self._tell(library.shared_insert_hashes_tell_new, words_of(hashes))
-
-    def _tell(self, call: Callable[..., bool], hashes: Hashes) -> Mask:
-        """Makes a call on hashes that tells of each by a bit."""
-        return told(call, (self._words, self._num_hashes), hashes)
-
-    # All words
-
-    def clear(self) -> None:
-        """Removes every item, one word after the other."""
-        library.shared_clear(self._words)
-
-    def count_ones(self) -> int:
-        """How many bits are set, of the words as they are loaded, one after the other."""
-        return library.shared_count_ones(self._words)
-
-    def take(self) -> Filter:
+    def take(self) -> OfWords:
         """Takes the items out into a plain filter.
 
         Each word is read and cleared by one operation, so no bit that another thread or process
         sets meanwhile is lost: it is either taken or still there.
         """
-        return self._plain(library.shared_take)
+        return self._copied(library.shared_take)
 
-    def load(self) -> Filter:
+    def load(self) -> OfWords:
         """A plain filter with the words as they are loaded, one after the other, as for a file."""
-        return self._plain(library.shared_load)
+        return self._copied(library.shared_load)
 
-    def _plain(self, call: Callable[..., bool]) -> Filter:
-        words = self._words
-        count = words.num_words
-        if count == 0:  # it was released
-            raise Refusal(_EMPTY_WORDS)
-        plain = Filter.__new__(Filter)
-        plain._set(bytearray(8 * count), 0, count, self._num_hashes, self._key)
-        call(words, plain._at, count)
-        return plain
+    _copy = load
 
-    def _check_shape(self, other: SharedFilter) -> None:
-        for name in ("num_words", "num_hashes", "key"):
-            if getattr(self, name) != getattr(other, name):
-                raise ValueError(f"the filters differ in {name}")
+    def _copied(self, call: Callable[..., bool]) -> OfWords:
+        (words,) = self._words
+        if words.num_words == 0:  # it was released
+            raise Refusal(EMPTY_WORDS)
+        view = self._plain._new_memory(words.num_words)
+        plain: Any = self._plain._of(view, self._num_hashes, self._key)
+        call(words, *plain._words)
+        return plain  # type: ignore[no-any-return]
 
-    def _change(self, other: SharedFilter, call: Callable[..., bool]) -> None:
-        self._check_shape(other)
-        call(self._words, other._words)
-
-    def __ior__(self, other: SharedFilter) -> SharedFilter:
-        """Takes in what is found in the other, one word after the other.
-
-        A filter of another size, number of hashes or key raises ValueError.
-        """
-        if not isinstance(other, SharedFilter):
+    def __or__(self, other: Kind) -> OfWords:
+        """A plain filter of what one of the two contains, as loaded. It raises as `|=`."""
+        if not isinstance(other, self._kind):
             return NotImplemented
-        self._change(other, library.shared_union)
-        return self
+        united = self.load()
+        united |= other._copy()
+        return united
 
-    def __iand__(self, other: SharedFilter) -> SharedFilter:
-        """Keeps what is found in the other, one word after the other. It raises as `|=`."""
-        if not isinstance(other, SharedFilter):
+    def __and__(self, other: Kind) -> OfWords:
+        """A plain filter of what both may contain, as loaded. It raises as `|=`."""
+        if not isinstance(other, self._kind):
             return NotImplemented
-        self._change(other, library.shared_intersect)
-        return self
+        common = self.load()
+        common &= other._copy()
+        return common
 
     def __reduce__(self) -> NoReturn:
         raise TypeError(
             "a shared filter isn't pickled: hand its memory or its file on, or `load()`"
         )
 
-    def __repr__(self) -> str:
-        """The size, and whether there is a key. The key itself isn't shown: it may be secret."""
-        key = "a key" if any(self._key) else "the zero key"
-        return f"<{type(self).__name__}: {self.num_bits} bits, {self._num_hashes} hashes, {key}>"
+
+class SharedFilter(Words["SharedFilter"], Shared["SharedFilter", Filter]):
+    """A set of texts or bytes that threads and processes fill at once, and that loses nothing.
+
+    A `Filter` is quicker where one thread adds at a time.
+    """
+
+    __slots__ = ()
+    _calls, _plain = library.SHARED, Filter
+
+
+class SharedBlockedFilter(
+    Lines["SharedBlockedFilter"], Shared["SharedBlockedFilter", BlockedFilter]
+):
+    """A blocked filter that threads and processes fill at once, and that loses nothing.
+
+    Where it is larger than the processor's cache, adds of many hashes are quicker than those of a
+    `SharedFilter`. It takes no filter of another kind in.
+    """
+
+    __slots__ = ()
+    _calls, _plain = library.BLOCKED_SHARED, BlockedFilter
+
+
+SharedFilter._kind, SharedBlockedFilter._kind = SharedFilter, SharedBlockedFilter

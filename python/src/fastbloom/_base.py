@@ -1,0 +1,342 @@
+"""What all kinds of filters share, and what those of whole lines and of single words do."""
+
+from __future__ import annotations
+
+import ctypes
+import typing
+from fractions import Fraction
+from typing import (
+    TYPE_CHECKING,
+    Any,
+    Callable,
+    ClassVar,
+    Generic,
+    Iterable,
+    List,
+    Tuple,
+    TypeVar,
+    Union,
+)
+
+from . import _library as library
+from ._checks import check, hash_value, number_of_items, rate_parts
+from ._items import Buffer, Item, Rate, bytes_of, check_many, plain_bytes
+from ._locks import alone, alone_with
+from ._many import Hashes, each_part, told, words_of
+from ._mask import Mask
+
+if TYPE_CHECKING:
+    from typing_extensions import Self as Self
+else:  # for typing.get_type_hints, also before Python 3.11
+    Self = getattr(typing, "Self", TypeVar("Self"))
+
+Kind = TypeVar("Kind", bound="Base[Any]")  # the class of the filters that one takes in
+
+
+class Base(Generic[Kind]):
+    """A set of texts or bytes with no false negatives, and with false positives at a chosen rate.
+
+    Items are `str`, which count as their UTF-8 bytes, and bytes-like objects. Everything else
+    raises TypeError, and a `str` that has no UTF-8 raises UnicodeEncodeError.
+    """
+
+    __slots__ = ("_view", "_words", "_num_hashes", "_key", "_lock", "__weakref__")
+    _calls: ClassVar[library.Calls]
+    _kind: ClassVar[Any]  # the class of those that it takes in
+    _unit: ClassVar[int]  # of so many bytes its words are made
+    _view: memoryview
+    _words: Tuple[Any, ...]  # as the calls take them
+    _num_hashes: int
+    _key: bytes
+    _lock: Any
+
+    def __init__(self, items: int, rate: Rate, key: Buffer = bytes(16)) -> None:
+        """The empty filter for this many items, at a rate of false positives.
+
+        `rate` is a text such as "1/1000", a Fraction or another number, above 0 and below 1. `key`
+        is sixteen bytes: where others choose the items, draw it (`os.urandom(16)`). A refused
+        number raises ValueError (`Refusal` where the library refuses it), another type TypeError,
+        and too large a filter MemoryError.
+        """
+        items = number_of_items(items)
+        words, hashes = ctypes.c_size_t(), ctypes.c_uint32()
+        check(self._calls.plan(*rate_parts(rate), items, words, hashes))
+        self._take(self._new_memory(words.value), hashes.value, key)
+
+    @classmethod
+    def _new_memory(cls, num_words: int) -> memoryview:
+        """Memory of this many words, all of them clear."""
+        raise NotImplementedError
+
+    @staticmethod
+    def _words_in(view: memoryview) -> Tuple[Any, ...]:
+        """The words of memory, as the calls take them."""
+        raise NotImplementedError
+
+    def _take(self, view: memoryview, num_hashes: int, key: Buffer) -> None:
+        """Takes the words that lie in a view, which keeps their memory where it is."""
+        key = plain_bytes(key, "a key is a bytes-like object")
+        if len(key) != 16:
+            raise ValueError("a key is sixteen bytes")
+        if hasattr(self, "_view"):  # a call under way may use the words that it has
+            raise TypeError("a filter is made once")
+        self._words = self._words_in(view)
+        self._view, self._num_hashes, self._key = view, num_hashes, key
+        self._lock = self._new_lock()
+
+    @staticmethod
+    def _new_lock() -> Any:
+        raise NotImplementedError
+
+    @classmethod
+    def _of(cls, view: memoryview, num_hashes: int, key: Buffer) -> Self:
+        """The filter with the words in a view."""
+        made = cls.__new__(cls)
+        made._take(view, num_hashes, key)
+        return made
+
+    @property
+    def num_words(self) -> int:
+        """The number of words of 64 bits."""
+        return self._view.nbytes // 8
+
+    @property
+    def num_bits(self) -> int:
+        """The number of bits."""
+        return 64 * self.num_words
+
+    @property
+    def num_hashes(self) -> int:
+        """The number of positions that an item has."""
+        return self._num_hashes
+
+    @property
+    def key(self) -> bytes:
+        """The sixteen bytes of the key."""
+        return self._key
+
+    def __repr__(self) -> str:
+        """The size, and whether there is a key. The key itself isn't shown: it may be secret."""
+        key = "a key" if any(self._key) else "the zero key"
+        return f"<{type(self).__name__}: {self.num_bits} bits, {self._num_hashes} hashes, {key}>"
+
+    # One item
+
+    @alone
+    def add(self, item: Item) -> bool:
+        """Adds an item, and returns whether it was contained before.
+
+        True may be a false positive. In a shared filter, False comes exactly if this call set a
+        bit itself.
+        """
+        data = bytes_of(item)
+        return self._calls.insert(*self._words, self._num_hashes, self._key, data, len(data))
+
+    @alone
+    def __contains__(self, item: Item) -> bool:
+        """Whether an item is contained. False: it was never added. True may be a false positive.
+
+        In a shared filter, while no call clears bits, False means that no add of it had returned
+        when this call began.
+        """
+        data = bytes_of(item)
+        return self._calls.contains(*self._words, self._num_hashes, self._key, data, len(data))
+
+    def hash(self, item: Item) -> int:
+        """The hash of an item: SipHash-1-3 of its bytes under the key."""
+        data = bytes_of(item)
+        return library.hash_of(self._key, data, len(data))
+
+    @alone
+    def add_hash(self, value: int) -> bool:
+        """As `add`, by the hash. One out of range raises ValueError."""
+        value = hash_value(value)  # whose `__index__` may release the words
+        return self._calls.insert_hash(*self._words, self._num_hashes, value)
+
+    @alone
+    def contains_hash(self, value: int) -> bool:
+        """As `in`, by the hash. One out of range raises ValueError."""
+        value = hash_value(value)
+        return self._calls.contains_hash(*self._words, self._num_hashes, value)
+
+    # Many items
+
+    def update(self, *others: Union[Kind, Iterable[Item]]) -> None:
+        """Adds each item of the iterables, many by one call. A filter among them is taken in.
+
+        Where an iterable raises, or an item is refused, those before it were added. A single `str`
+        or bytes-like object raises TypeError, since it is an item, and a filter that doesn't fit
+        ValueError; these are seen first.
+        """
+        for other in others:
+            self._check_other(other)
+        for other in others:
+            if isinstance(other, self._kind):
+                self._change(other, self._calls.union)
+            else:
+                each_part(other, self._key, "add", self._add_hashed)  # type: ignore[arg-type]
+
+    @alone
+    def _add_hashed(self, hashes: Hashes) -> None:
+        self._calls.insert_hashes(*self._words, self._num_hashes, *hashes)
+
+    def contains_many(self, items: Iterable[Item]) -> List[bool]:
+        """Whether each item of an iterable is contained, in their order, many by one call.
+
+        An item that is refused, and a single `str` or bytes-like object, raise as in `update`.
+        """
+        answers: List[bool] = []
+
+        def ask(hashes: Hashes) -> None:
+            answers.extend(self._tell(self._calls.contains_hashes, hashes).tolist())
+
+        each_part(items, self._key, "in", ask)
+        return answers
+
+    def add_hashes(self, hashes: Buffer) -> None:
+        """Adds each hash of a buffer of words of 64 bits, as of an array, by one call.
+
+        Such a buffer is an `array("Q")`, an array of numpy of kind `uint64`, or a view of one. Any
+        other raises TypeError. What can't be written, or isn't aligned to eight, is copied first.
+        Threads that call it of a shared filter, with buffers of their own, run side by side. No
+        thread changes the buffer meanwhile.
+        """
+        self._add_hashed(words_of(hashes))
+
+    def contains_hashes(self, hashes: Buffer) -> Mask:
+        """Whether each hash of a buffer of words of 64 bits is contained, by one call."""
+        return self._tell(self._calls.contains_hashes, words_of(hashes))
+
+    def add_hashes_tell_new(self, hashes: Buffer) -> Mask:
+        """Adds each hash of a buffer of words of 64 bits, and tells which of the adds set a bit.
+
+        They are added one after the other, so a hash that comes twice is new once at most.
+        """
+        return self._tell(self._calls.insert_hashes_tell_new, words_of(hashes))
+
+    @alone
+    def _tell(self, call: Callable[..., bool], hashes: Hashes) -> Mask:
+        """Makes a call on hashes that tells of each by a bit."""
+        return told(call, (*self._words, self._num_hashes), hashes)
+
+    # All words. Of a shared filter, they are read and changed one after the other.
+
+    @alone
+    def clear(self) -> None:
+        """Removes every item."""
+        self._calls.clear(*self._words)
+
+    @alone
+    def count_ones(self) -> int:
+        """How many of its bits are set."""
+        return self._calls.count_ones(*self._words)
+
+    def _mean_rate(self, items: int) -> Union[Fraction, float]:
+        """The mean rate of false positives once it has this many items, or what is above it."""
+        raise NotImplementedError
+
+    def capacity_for(self, rate: Rate) -> int:
+        """How many items it takes at a mean rate of false positives, of its size as it is.
+
+        Of a filter that isn't blocked, it is the most at which the proved upper bound isn't above
+        the rate. Of a blocked one it is computed by a formula, and not proved. What is refused as a
+        rate raises as in the constructor.
+        """
+        wanted = Fraction(*rate_parts(rate))
+        low, high = 0, 1
+        while self._mean_rate(high) <= wanted:
+            low, high = high, 2 * high
+        while high - low > 1:
+            middle = (low + high) // 2
+            low, high = (middle, high) if self._mean_rate(middle) <= wanted else (low, middle)
+        return low
+
+    # Two filters
+
+    def _check_other(self, other: Any) -> None:
+        """Raises for what is neither a filter that fits nor many items."""
+        if isinstance(other, self._kind):
+            self._check_shape(other)
+        else:
+            check_many(other, "add")
+            iter(other)
+
+    def _check_kind(self, other: Any) -> None:
+        """Raises for what is no filter of this kind that fits."""
+        if not isinstance(other, self._kind):
+            raise TypeError(f"the other is a {self._kind.__name__}, not {type(other).__name__}")
+        self._check_shape(other)
+
+    def _check_shape(self, other: Any) -> None:
+        """Raises ValueError where another filter doesn't fit."""
+        for name in ("num_words", "num_hashes", "key"):
+            if getattr(self, name) != getattr(other, name):
+                raise ValueError(f"the filters differ in {name}")
+
+    @alone_with
+    def _with(self, other: Any, call: Callable[..., bool], *more: Any) -> bool:
+        return call(*self._words, *other._words, *more)
+
+    def _change(self, other: Any, call: Callable[..., bool]) -> None:
+        """Changes this filter by another one. Where they don't fit, it raises ValueError."""
+        self._check_shape(other)
+        if other is not self:  # the library asks for words that lie apart
+            self._with(other, call)
+
+    def _copy(self) -> Any:
+        """A plain filter with the same words, as they are at one instant, or were loaded."""
+        raise NotImplementedError
+
+    def __ior__(self, other: Kind) -> Self:
+        """Takes in what the other contains.
+
+        A filter of another size, number of hashes or key raises ValueError.
+        """
+        if not isinstance(other, self._kind):
+            return NotImplemented
+        self._change(other, self._calls.union)
+        return self
+
+    def __iand__(self, other: Kind) -> Self:
+        """Keeps what both may contain. It raises as `|=`."""
+        if not isinstance(other, self._kind):
+            return NotImplemented
+        self._change(other, self._calls.intersect)
+        return self
+
+    def issubset(self, other: Kind) -> bool:
+        """Whether the other has all set bits of this one, so that it contains all items of this.
+
+        A filter of another size, number of hashes or key raises ValueError, and what is no filter
+        of this kind TypeError.
+        """
+        self._check_kind(other)
+        # Other threads may add meanwhile: each is what it was at one instant.
+        before, united = other._copy(), self._copy()
+        united |= before
+        return bool(united == before)
+
+    def issuperset(self, other: Kind) -> bool:
+        """Whether it has all set bits of the other. It raises as `issubset`."""
+        self._check_kind(other)
+        return other.issubset(self)
+
+    def __le__(self, other: Kind) -> bool:
+        """As `issubset`."""
+        if not isinstance(other, self._kind):
+            return NotImplemented
+        return self.issubset(other)
+
+    def __ge__(self, other: Kind) -> bool:
+        """As `issuperset`."""
+        if not isinstance(other, self._kind):
+            return NotImplemented
+        return self.issuperset(other)
+
+    def __lt__(self, other: Kind) -> bool:
+        """As `issubset`, of filters that aren't equal."""
+        return self <= other and not self >= other
+
+    def __gt__(self, other: Kind) -> bool:
+        """As `issuperset`, of filters that aren't equal."""
+        return self >= other and not self <= other

@@ -1,0 +1,130 @@
+"""What sizes, rates and heads of files are refused for."""
+
+from __future__ import annotations
+
+import ctypes
+import operator
+import struct
+from decimal import Decimal
+from fractions import Fraction
+from numbers import Real
+from typing import Callable, Optional, Tuple
+
+from . import _library as library
+from ._items import Rate
+
+EMPTY_WORDS, TOO_MANY_WORDS, _ZERO_RATE, CUT, _TOO_LONG, SEAL = 2, 3, 4, 11, 12, 14
+_REASONS = {
+    1: "zero bits",
+    EMPTY_WORDS: "no words",
+    TOO_MANY_WORDS: "too many words",
+    _ZERO_RATE: "rate with a zero part",
+    5: "size too large",
+    6: "no memory",
+    7: "hash count out of range",
+    8: "no worker",
+    9: "not a filter",
+    10: "a version of the file that isn't known",
+    CUT: "the file is cut",
+    _TOO_LONG: "the file goes on after its last word",
+    13: "a reserved byte isn't zero",
+    SEAL: "the seal is wrong: the file was changed",
+    15: "input failed",
+    16: "words that are no whole lines",
+    17: "the file has a blocked filter",
+    18: "the file's filter isn't blocked",
+}
+HEAD = 64  # bytes; the words of a file come next
+_LONGEST_RATE, _LONGEST_EXPONENT = 2000, 4  # digits of a rate, and of its exponent
+
+
+class Refusal(ValueError):
+    """Why a size or a file is refused. `code` is the number that the header fastbloom.h names."""
+
+    def __init__(self, code: int) -> None:
+        super().__init__(code)
+        self.code = code
+
+    def __str__(self) -> str:
+        return _REASONS.get(self.code, "an unknown refusal")
+
+
+def check(code: int) -> None:
+    if code:
+        raise Refusal(code)
+
+
+def hash_value(value: int) -> int:
+    value = operator.index(value)
+    if not 0 <= value < 2**64:
+        raise ValueError("a hash is from 0 to 2^64 - 1")
+    return value
+
+
+def number_of_items(items: int) -> int:
+    items = operator.index(items)
+    if not 0 <= items < 2**64:
+        raise ValueError("items are from 0 to 2^64 - 1")
+    return items
+
+
+def number_of_hashes(num_hashes: int) -> int:
+    num_hashes = operator.index(num_hashes)
+    if not 1 <= num_hashes < 2**32:
+        raise ValueError("hashes are from 1 to 2^32 - 1")
+    return num_hashes
+
+
+def rate_parts(rate: Rate) -> Tuple[int, int]:
+    """The two parts of a rate. That of a float is read from its shortest text."""
+    if not isinstance(rate, (str, Real, Decimal)):
+        raise TypeError(f"a rate is a text or a number, not {type(rate).__name__}")
+    text = str(rate)
+    # A fraction of more digits may take long to make.
+    exponent = text.upper().partition("E")[2].strip().lstrip("+-0_")
+    if len(text) > _LONGEST_RATE or len(exponent) > _LONGEST_EXPONENT:
+        raise ValueError("a rate has too many digits")
+    try:
+        fraction = Fraction(text)
+    except ZeroDivisionError:
+        raise Refusal(_ZERO_RATE) from None
+    if not 0 <= fraction.numerator < 2**64 or fraction.denominator >= 2**64:
+        raise ValueError("the parts of a rate are from 0 to 2^64 - 1")
+    if fraction >= 1:
+        raise ValueError("a rate of false positives is below 1")
+    return fraction.numerator, fraction.denominator
+
+
+def _read_head(head: bytes, call: Callable[..., int]) -> Tuple[int, int, bytes, int]:
+    """The numbers of words and of hashes, the key and the seal that a head tells."""
+    words, hashes = ctypes.c_size_t(), ctypes.c_uint32()
+    key, seal = ctypes.create_string_buffer(16), ctypes.c_uint64()
+    check(call(head, words, hashes, key, seal))
+    return words.value, hashes.value, key.raw, seal.value
+
+
+def check_file(
+    head: bytes,
+    size: int,
+    calls: library.Calls,
+    max_hashes: Optional[int],
+    max_words: Optional[int],
+) -> Tuple[int, int, bytes, int]:
+    """What the first 64 bytes of a file of this size tell, if the file isn't refused for them.
+
+    `calls` are those on the kind of filters that is wanted.
+    """
+    # Where the head is truncated, good numbers stand for those that it lacks. The last two, by
+    # which the kinds differ, are read after the size.
+    good = struct.pack("<8Q", 0, 1, 1, 0, 0, 0, 0, 0)
+    there = min(len(head) // 8 * 8, 48)
+    wanted = HEAD + 8 * _read_head(head[:there] + good[there:], library.PLAIN.head_read)[0]
+    if size > wanted:
+        raise Refusal(_TOO_LONG)
+    if size < wanted or len(head) < HEAD:  # a file that grows may have been short
+        raise Refusal(CUT)
+    told = _read_head(head, calls.head_read)
+    for name, most, found in ("words", max_words, told[0]), ("hashes", max_hashes, told[1]):
+        if most is not None and found > most:
+            raise ValueError(f"the file has {found} {name}, and max_{name} is {most}")
+    return told

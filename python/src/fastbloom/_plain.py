@@ -1,0 +1,273 @@
+"""What the filters have that one thread uses at a time: copies, files, and sets of them."""
+
+from __future__ import annotations
+
+import copy
+import ctypes
+import pickle
+from typing import Any, Dict, Iterable, List, Optional, Tuple, Type, TypeVar, Union
+
+from . import _library as library
+from ._base import Base, Kind, Self
+from ._checks import CUT, HEAD, SEAL, Refusal, check, check_file, number_of_hashes
+from ._files import Path, map_file, open_regular, size_of, write_file
+from ._items import Buffer, Item, plain_bytes
+from ._locks import alone, new_lock
+
+_LINE = 64  # bytes; a line of the cache has as many
+_Plain = TypeVar("_Plain", bound="Plain[Any]")
+
+
+def _restored(cls: Type[_Plain], data: bytes) -> _Plain:
+    """The filter that was pickled as a file."""
+    return cls.from_bytes(data, max_hashes=None)
+
+
+def _restored_words(cls: Type[_Plain], num_hashes: int, key: bytes, words: Buffer) -> _Plain:
+    """The filter that was pickled as words, which are copied: they may be another filter's."""
+    with memoryview(words).cast("B") as data:
+        if not data.nbytes or data.nbytes % cls._unit:
+            raise ValueError(f"words are of {cls._unit} bytes")
+        view = cls._new_memory(data.nbytes // 8)
+        view[:] = data
+    return cls._of(view, number_of_hashes(num_hashes), key)
+
+
+def _attributes_of(made: object) -> Tuple[Dict[str, Any], Dict[str, Any]]:
+    """What a subclass adds: its attributes, and those of them that have slots."""
+    slots = {}
+    for cls in type(made).__mro__:
+        names = () if cls is Base else vars(cls).get("__slots__", ())
+        for name in (names,) if isinstance(names, str) else names:
+            if name.startswith("__") and not name.endswith("__"):
+                name = f"_{cls.__name__.lstrip('_')}{name}"  # how Python keeps a private name
+            if name not in ("__dict__", "__weakref__") and hasattr(made, name):
+                slots[name] = getattr(made, name)
+    return getattr(made, "__dict__", {}), slots
+
+
+def _state_of(made: object) -> Any:
+    """What a subclass adds, as pickle takes it."""
+    attributes, slots = _attributes_of(made)
+    return (attributes or None, slots) if slots else attributes or None
+
+
+def _add_attributes(made: object, added: Tuple[Dict[str, Any], Dict[str, Any]]) -> None:
+    attributes, slots = added
+    if attributes:
+        made.__dict__.update(attributes)
+    for name, value in slots.items():
+        setattr(made, name, value)
+
+
+class Plain(Base[Kind]):
+    """Threads may call one filter at once, and none loses what another one adds.
+
+    Calls come one after the other, but `update`, `contains_many`, `|` and `&` are several, and
+    other calls may come between.
+    """
+
+    __slots__ = ()
+    _new_lock = staticmethod(new_lock)
+
+    @classmethod
+    def _new_memory(cls, num_words: int) -> memoryview:
+        """Memory of this many words, all of them clear, from where a line of the cache begins."""
+        memory = memoryview(bytearray(8 * num_words + _LINE))
+        first = -ctypes.addressof(ctypes.c_char.from_buffer(memory)) % _LINE
+        return memory[first : first + 8 * num_words]
+
+    @staticmethod
+    def _words_in(view: memoryview) -> Tuple[int, int]:
+        """The address of the words, and how many they are."""
+        return ctypes.addressof(ctypes.c_char.from_buffer(view)), view.nbytes // 8
+
+    # Two filters
+
+    def __or__(self, other: Kind) -> Self:
+        """A filter of what one of the two contains. It raises as `|=`."""
+        if not isinstance(other, self._kind):
+            return NotImplemented
+        return self.union(other)
+
+    def __and__(self, other: Kind) -> Self:
+        """A filter of what both may contain. It raises as `|=`."""
+        if not isinstance(other, self._kind):
+            return NotImplemented
+        return self.intersection(other)
+
+    def union(self, *others: Union[Kind, Iterable[Item]]) -> Self:
+        """A filter of what this one or any of the others contains. It raises as `update`."""
+        for other in others:
+            self._check_other(other)
+        united = self.copy()
+        united.update(*others)
+        return united
+
+    def intersection(self, *others: Union[Kind, Iterable[Item]]) -> Self:
+        """A filter of what this one and each of the others may contain. It raises as `update`."""
+        for other in others:
+            self._check_other(other)
+        common = self.copy()
+        common.intersection_update(*others)
+        return common
+
+    def intersection_update(self, *others: Union[Kind, Iterable[Item]]) -> None:
+        """Keeps what each of the others may contain. Where it raises, as `update`, all is kept."""
+        for other in others:
+            self._check_other(other)
+        for fitting in list(map(self._as_filter, others)):
+            self._change(fitting, self._calls.intersect)
+
+    def _as_filter(self, other: Any) -> Any:
+        """A filter, or that of items, with as many words and hashes as this one, and its key."""
+        if isinstance(other, self._kind):
+            return other
+        made = self._kind._of(self._new_memory(self.num_words), self._num_hashes, self._key)
+        made.update(other)
+        return made
+
+    def __eq__(self, other: object) -> bool:
+        """Whether words, numbers of hashes and keys are equal."""
+        if not isinstance(other, self._kind):
+            return NotImplemented
+        alike = (self._num_hashes, self._key) == (other._num_hashes, other._key)
+        return alike and self._with(other, library.equal)
+
+    __hash__ = None  # type: ignore[assignment]
+
+    # Copies
+
+    @alone
+    def _copy_words(self, memory: memoryview) -> None:
+        memory[:] = self._view
+
+    def _copy(self) -> Self:
+        view = self._new_memory(self.num_words)
+        self._copy_words(view)
+        return self._of(view, self._num_hashes, self._key)
+
+    def copy(self) -> Self:
+        """A filter with words of its own, which are equal to these."""
+        made = self._copy()
+        _add_attributes(made, _attributes_of(self))
+        return made
+
+    __copy__ = copy
+
+    def __deepcopy__(self, memo: Any) -> Self:
+        made = self._copy()
+        memo[id(self)] = made
+        _add_attributes(made, copy.deepcopy(_attributes_of(self), memo))
+        return made
+
+    def __reduce__(self) -> Tuple[Any, ...]:
+        """Pickles the bytes of the file, which have the key, and what a subclass adds."""
+        return _restored, (type(self), self.to_bytes()), _state_of(self)
+
+    def __reduce_ex__(self, protocol: Any) -> Any:
+        """From protocol 5 on it hands out the words themselves, which `buffer_callback` may take.
+
+        No other thread adds meanwhile. The filter that is read has a copy of them.
+        """
+        if protocol < 5 or type(self).__reduce__ is not Plain.__reduce__:
+            return self.__reduce__()
+        words = pickle.PickleBuffer(self._view.toreadonly())
+        made = type(self), self._num_hashes, self._key, words
+        return _restored_words, made, _state_of(self)
+
+    def __sizeof__(self) -> int:
+        """The bytes of memory, those of its words included."""
+        return int(object.__sizeof__(self)) + self._view.nbytes
+
+    def view(self) -> memoryview:
+        """The words as a memoryview of numbers of 64 bits, which can't be written.
+
+        Nothing is copied: it shows what is added later. `words` makes a copy.
+        """
+        return self._view.cast("Q").toreadonly()
+
+    def words(self) -> List[int]:
+        """The words, as a list of numbers."""
+        return self._copy().view().tolist()
+
+    # Files
+
+    def _file(self, sealed: bool) -> bytearray:
+        """The bytes of the file, of the words as they are at one instant."""
+        file = bytearray(HEAD + self._view.nbytes)
+        self._copy_words(memoryview(file)[HEAD:])
+        at = ctypes.addressof(ctypes.c_char.from_buffer(file))
+        shape = self.num_words, self._num_hashes, self._key
+        seal = self._calls.seal(at + HEAD, *shape) if sealed else 0
+        check(self._calls.head_write(*shape, seal, at))
+        return file
+
+    def to_bytes(self, sealed: bool = True) -> bytes:
+        """The bytes of the file that `save` writes."""
+        return bytes(self._file(sealed))
+
+    def save(self, path: Path, sealed: bool = True) -> None:
+        """Writes a file, whole or not at all. It raises OSError where that fails.
+
+        A file that it replaces hands its rights on, and a link is replaced itself. A reader of a
+        sealed file finds out whether a byte was changed. A file that is to be changed while others
+        map it is not sealed.
+        """
+        write_file(path, self._file(sealed))
+
+    @classmethod
+    def from_bytes(
+        cls, data: Buffer, *, max_hashes: Optional[int] = 64, max_words: Optional[int] = None
+    ) -> Self:
+        """The filter of a file's bytes, which are copied.
+
+        Bytes that are no such file raise Refusal, which is a ValueError, with the first reason; so
+        does the file of another kind of filter. A file with more than `max_hashes` hashes raises
+        ValueError too, since each call on it takes as many steps, and one with more than
+        `max_words` words; None stands for no limit. A filter of one's own has more than 64 hashes
+        only where it is made for a few items at a rate below 10^-13.
+        """
+        data = plain_bytes(data, "a file is a bytes-like object")
+        told = check_file(data[:HEAD], len(data), cls._calls, max_hashes, max_words)
+        view = cls._new_memory(told[0])
+        view[:] = memoryview(data)[HEAD:]
+        return cls._read(view, *told[1:])
+
+    @classmethod
+    def load(
+        cls,
+        path: Path,
+        *,
+        max_hashes: Optional[int] = 64,
+        max_words: Optional[int] = None,
+        mapped: bool = False,
+    ) -> Self:
+        """The filter of a file, which is read into memory.
+
+        It raises OSError where the file can't be read, and as `from_bytes` where it is refused. The
+        head is read first, so that a file with too many words takes no memory.
+
+        A file that is `mapped` is read as its words are needed, and processes share its pages; but
+        one with a seal is read whole, to check it. What this process adds stays its own. The file
+        isn't to be truncated or written while it is mapped, as by `cp`: the filter would lose
+        members, or the process end by a signal. `save` replaces it by a new file.
+        """
+        with open_regular(path) as file:
+            head, size = file.read(HEAD), size_of(file)
+            told = check_file(head, size, cls._calls, max_hashes, max_words)
+            if mapped:
+                view = memoryview(map_file(file, size))[HEAD:]
+            else:
+                view = cls._new_memory(told[0])
+                if file.readinto(view) != view.nbytes:  # it has become shorter
+                    raise Refusal(CUT)
+        return cls._read(view, *told[1:])
+
+    @classmethod
+    def _read(cls, view: memoryview, num_hashes: int, key: bytes, seal: int) -> Self:
+        """The filter of the words of a file, unless its seal is that of other ones."""
+        read = cls._of(view, num_hashes, key)
+        if seal and seal != cls._calls.seal(*read._words, num_hashes, key):
+            raise Refusal(SEAL)
+        return read
