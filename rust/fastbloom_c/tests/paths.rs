@@ -1,6 +1,8 @@
 //! Files by their paths, operators on filters, filters of iterators, and rates that are read.
 
-use fastbloom_c::{BlockedBloomFilter, BloomFilter, Error, Rate};
+use fastbloom_c::{
+    AtomicBlockedBloomFilter, AtomicBloomFilter, BlockedBloomFilter, BloomFilter, Error, Rate,
+};
 use std::error::Error as _;
 use std::io::{BufRead, BufReader};
 use std::os::unix::fs::{symlink, FileTypeExt, PermissionsExt};
@@ -225,6 +227,44 @@ fn operators_are_the_calls_of_their_names() {
     for call in [|a, b| a | b, |a: &BloomFilter, b: &BloomFilter| a & b] {
         assert!(panic::catch_unwind(|| call(&one, &odd)).is_err());
     }
+}
+
+/// By hand: of these words of four bits each, which is a subset of which.
+#[test]
+fn a_subset_has_no_bit_that_the_other_lacks() {
+    let rows = [
+        ([0, 0], [0, 0], true),
+        ([0b0110, 0], [0b0111, 0], true),
+        ([0b0110, 0], [0b0101, 0], false),
+        ([0b0110, 1], [0b0110, 0], false),
+        ([0, 1], [u64::MAX, 1], true),
+        ([1, u64::MAX], [1, u64::MAX >> 1], false),
+    ];
+    let lines = |words: [u64; 2]| {
+        let words = [words[0], 0, 0, 0, 0, 0, 0, words[1]];
+        let lines = BlockedBloomFilter::from_words(&words).unwrap();
+        lines.hashes(3)
+    };
+    for (one, other, wanted) in rows {
+        let whole = [one, other].map(|it| BloomFilter::from_vec(it.to_vec()).unwrap().hashes(3));
+        assert_eq!(whole[0].is_subset(&whole[1]), Ok(wanted));
+        let blocked = [one, other].map(lines);
+        assert_eq!(blocked[0].is_subset(&blocked[1]), Ok(wanted));
+        let whole = whole.map(AtomicBloomFilter::from);
+        assert_eq!(whole[0].is_subset(&whole[1]), Ok(wanted));
+        let blocked = blocked.map(AtomicBlockedBloomFilter::from);
+        assert_eq!(blocked[0].is_subset(&blocked[1]), Ok(wanted));
+    }
+    let other = BloomFilter::from_vec(vec![0, 0]).unwrap().hashes(4);
+    let whole = BloomFilter::from_vec(vec![0, 0]).unwrap().hashes(3);
+    assert_eq!(whole.is_subset(&other), Err(Error::OtherShape));
+    let [whole, other] = [whole, other].map(AtomicBloomFilter::from);
+    assert_eq!(whole.is_subset(&other), Err(Error::OtherShape));
+    let keyed = BlockedBloomFilter::with_num_bits(512).unwrap().seed(&1);
+    assert_eq!(
+        lines([0, 0]).is_subset(&keyed.hashes(3)),
+        Err(Error::OtherShape)
+    );
 }
 
 #[test]
