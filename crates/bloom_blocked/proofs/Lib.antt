@@ -12,7 +12,6 @@ mod LineFileFacts
 mod LineFileLemmas
 mod LineLemmas
 mod LineStepFacts
-mod LineStepLemmas
 mod ManyLemmas
 mod PositionLemmas
 mod SharedBlockedFacts
