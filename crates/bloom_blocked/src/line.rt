@@ -5,7 +5,7 @@ ghost use Rattle.bloom_parts.specs.Places.{positions};
 ghost use Rattle.bloom_blocked.specs.Lines.{inner_of};
 ghost use Rattle.bloom_blocked.specs.LineSteps.{LooksInLine, SetsInLine, WasSetInLine};
 
-use crate::many::LINES_TOGETHER;
+use crate::many::{LINES_TOGETHER, WORDS_TO_READ_AHEAD};
 use crate::words::{LINE, inner, line_start, with_range};
 use bloom_parts::bit_vector::{Loads, TurnWords};
 use bloom_parts::slices::insert_in_few_words;
@@ -64,8 +64,8 @@ fn touch_lines<W: TurnWords>(words: &Loads<'_, W>, hashes: &[u64])
     }
 }
 
-/// Inserts each of these hashes, in order.
-pub fn insert_each<W: TurnWords>(words: &W, num_hashes: u32, hashes: &[u64])
+// Inserts each of these hashes, in order.
+fn insert_each<W: TurnWords>(words: &W, num_hashes: u32, hashes: &[u64])
     requires { 8 ≤ (W.vector words.now).count }
     ensures { All (WasSetInLine (W.vector words.now) num_hashes) hashes.now }
 {
@@ -85,9 +85,9 @@ pub fn load_then_insert<W: TurnWords>(words: &W, num_hashes: u32, hashes: &[u64]
     insert_each(words, num_hashes, hashes);
 }
 
-/// Inserts each of these hashes, in order, 64 at a time: the ends of their lines are loaded first.
+// Inserts each of these hashes, in order, 64 at a time: the ends of their lines are loaded first.
 #[inline(always)]
-pub fn insert_together<W: TurnWords>(words: &W, num_hashes: u32, hashes: &[u64])
+fn insert_together<W: TurnWords>(words: &W, num_hashes: u32, hashes: &[u64])
     requires { 8 ≤ (W.vector words.now).count }
     ensures { All (WasSetInLine (W.vector words.now) num_hashes) hashes.now }
 {
@@ -97,4 +97,18 @@ pub fn insert_together<W: TurnWords>(words: &W, num_hashes: u32, hashes: &[u64])
         load_then_insert(words, num_hashes, &hashes[at..at + LINES_TOGETHER]);
     }
     load_then_insert(words, num_hashes, &hashes[LINES_TOGETHER * turns..]);
+}
+
+/// Inserts each of these hashes, in order. Where the words are one mebibyte or more, the ends of the
+/// lines of 64 hashes are loaded before the first is inserted.
+#[inline(always)]
+pub fn insert_hashes<W: TurnWords>(words: &W, num_hashes: u32, hashes: &[u64])
+    requires { 8 ≤ (W.vector words.now).count }
+    ensures { All (WasSetInLine (W.vector words.now) num_hashes) hashes.now }
+{
+    if words.len() >= WORDS_TO_READ_AHEAD {
+        insert_together(words, num_hashes, hashes);
+    } else {
+        insert_each(words, num_hashes, hashes);
+    }
 }

@@ -7,7 +7,6 @@ mod sets;
 
 use crate::filter::BlockedBloomFilter;
 use crate::line;
-use crate::many::WORDS_TO_READ_AHEAD;
 use bloom_parts::bit_vector::AtomicBitVec;
 use bloom_parts::error::FilterError;
 use bloom_parts::hasher::DefaultHasher;
@@ -116,12 +115,6 @@ impl<S> AtomicBlockedBloomFilter<S> {
     pub fn insert_hashes(&self, hashes: &[u64])
         ensures { All (WasInsertedInLine self.now) hashes.now }
     {
-        let words = self.words.lent();
-        let is_large = self.words.len() >= WORDS_TO_READ_AHEAD;
-        if is_large {
-            line::insert_together(&words, self.num_hashes, hashes);
-        } else {
-            line::insert_each(&words, self.num_hashes, hashes);
-        }
+        line::insert_hashes(&self.words.lent(), self.num_hashes, hashes);
     }
 }

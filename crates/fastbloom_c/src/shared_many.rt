@@ -7,9 +7,9 @@ use crate::lent::LentWords;
 use crate::many::have_room;
 use crate::shared::{found_hashes, make_filter};
 use crate::words::{PassedWords, RawWords};
+use bloom_parts::slices::clear;
 use bloom_parts::slices::many::turn_on_where;
-use bloom_parts::slices::{WORDS_BEYOND_CACHE, clear};
-use bloom_steps::calls::{insert_each, insert_hash, insert_together};
+use bloom_steps::calls::{insert_hash, insert_hashes};
 
 /// Inserts each of these hashes, and returns whether there are words.
 ///
@@ -31,12 +31,7 @@ pub extern "C" fn fastbloom_shared_insert_hashes(
     }
     let lent = LentWords::new(&words);
     let num_hashes = num_hashes.max(1);
-    let is_large = words.len() >= WORDS_BEYOND_CACHE;
-    if is_large {
-        insert_together(&lent, num_hashes, hashes);
-    } else {
-        insert_each(&lent, num_hashes, hashes);
-    }
+    insert_hashes(&lent, num_hashes, hashes);
     true
 }
 

@@ -9,7 +9,7 @@ use super::span_store::SpanStore;
 use super::vocabulary::Call;
 use bloom_parts::bit_vector::{Loads, Turn, TurnWords, next_place};
 use bloom_parts::hasher::DoubleHasher;
-use bloom_parts::slices::HASHES_TOGETHER;
+use bloom_parts::slices::{HASHES_TOGETHER, WORDS_BEYOND_CACHE};
 
 /// Makes all steps of a call on all words, in order, and returns the call's reply.
 #[inline(always)]
@@ -59,9 +59,9 @@ fn touch<W: TurnWords>(words: &Loads<'_, W>, num_hashes: u32, hash: u64) {
     }
 }
 
-/// Inserts each of these hashes, in order.
+// Inserts each of these hashes, in order.
 #[inline(always)]
-pub fn insert_each<W: TurnWords>(words: &W, num_hashes: u32, hashes: &[u64])
+fn insert_each<W: TurnWords>(words: &W, num_hashes: u32, hashes: &[u64])
     requires { 1 ≤ num_hashes }
     ensures { All (WasInserted (W.vector words.now) num_hashes) hashes.now }
 {
@@ -83,9 +83,9 @@ pub fn load_then_insert<W: TurnWords>(words: &W, num_hashes: u32, hashes: &[u64]
     insert_each(words, num_hashes, hashes);
 }
 
-/// Inserts each of these hashes, in order, sixteen at a time: their words are loaded first.
+// Inserts each of these hashes, in order, sixteen at a time: their words are loaded first.
 #[inline(always)]
-pub fn insert_together<W: TurnWords>(words: &W, num_hashes: u32, hashes: &[u64])
+fn insert_together<W: TurnWords>(words: &W, num_hashes: u32, hashes: &[u64])
     requires { 1 ≤ num_hashes }
     ensures { All (WasInserted (W.vector words.now) num_hashes) hashes.now }
 {
@@ -95,6 +95,20 @@ pub fn insert_together<W: TurnWords>(words: &W, num_hashes: u32, hashes: &[u64])
         load_then_insert(words, num_hashes, &hashes[at..at + HASHES_TOGETHER]);
     }
     insert_each(words, num_hashes, &hashes[HASHES_TOGETHER * turns..]);
+}
+
+/// Inserts each of these hashes, in order. Where the words are larger than a cache, those of
+/// sixteen hashes are loaded before the first is inserted.
+#[inline(always)]
+pub fn insert_hashes<W: TurnWords>(words: &W, num_hashes: u32, hashes: &[u64])
+    requires { 1 ≤ num_hashes }
+    ensures { All (WasInserted (W.vector words.now) num_hashes) hashes.now }
+{
+    if words.len() >= WORDS_BEYOND_CACHE {
+        insert_together(words, num_hashes, hashes);
+    } else {
+        insert_each(words, num_hashes, hashes);
+    }
 }
 
 /// Clears every position, one word after the other.

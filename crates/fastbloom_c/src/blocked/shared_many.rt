@@ -7,8 +7,7 @@ use super::many::have_room;
 use super::shared::make_lines;
 use crate::lent::LentWords;
 use crate::words::{PassedWords, RawWords};
-use bloom_blocked::line::{insert_each, insert_together, looks_in_line, set_in_line};
-use bloom_blocked::many::WORDS_TO_READ_AHEAD;
+use bloom_blocked::line::{insert_hashes, looks_in_line, set_in_line};
 use bloom_parts::slices::clear;
 use bloom_parts::slices::many::turn_on_where;
 
@@ -32,12 +31,7 @@ pub extern "C" fn fastbloom_blocked_shared_insert_hashes(
     }
     let lent = LentWords::new(&words);
     let num_hashes = num_hashes.max(1);
-    let is_large = words.len() >= WORDS_TO_READ_AHEAD;
-    if is_large {
-        insert_together(&lent, num_hashes, hashes);
-    } else {
-        insert_each(&lent, num_hashes, hashes);
-    }
+    insert_hashes(&lent, num_hashes, hashes);
     true
 }
 

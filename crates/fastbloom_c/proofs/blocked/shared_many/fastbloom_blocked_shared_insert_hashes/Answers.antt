@@ -4,8 +4,8 @@ use Rattle.fastbloom_c.specs.Passed.{vector_of}
 use Rattle.fastbloom_c.specs.BlockedShared.{WasSetInLine}
 use Rattle.fastbloom_c.proofs.blocked.shared_many.fastbloom_blocked_shared_insert_hashes.Goals as goal
 
-pub returns-then-is_large-clause-made : goal.returns-then-is_large-clause-made
-returns-then-is_large-clause-made c = λ _.
+pub returns-clause-made : goal.returns-clause-made
+returns-clause-made c = λ _.
     let words = c.args.words in
     let hashes = c.args.hashes.now in
     let k : c.max-num_hashes.result ≡ max 1 c.args.num_hashes = search rules in
@@ -16,20 +16,5 @@ returns-then-is_large-clause-made c = λ _.
     record {
       each =
           subst (λ v. All (WasSetInLine v (max 1 c.args.num_hashes)) hashes) vector
-          (subst (λ n. All (WasSetInLine c.new-lent.result n) hashes) k c.insert_together.ensures);
-    }
-
-pub returns-else-is_large-clause-made : goal.returns-else-is_large-clause-made
-returns-else-is_large-clause-made c = λ _.
-    let words = c.args.words in
-    let hashes = c.args.hashes.now in
-    let k : c.max-num_hashes.result ≡ max 1 c.args.num_hashes = search rules in
-    let vector : c.new-lent.result ≡ vector_of words.at words.len =
-    c.new-lent.ensures
-    ∙ ap (λ at. vector_of at c.shared-words.result.len) c.shared-words.ensures.at
-    ∙ ap (vector_of words.at) c.shared-words.ensures.len in
-    record {
-      each =
-          subst (λ v. All (WasSetInLine v (max 1 c.args.num_hashes)) hashes) vector
-          (subst (λ n. All (WasSetInLine c.new-lent.result n) hashes) k c.insert_each.ensures);
+          (subst (λ n. All (WasSetInLine c.new-lent.result n) hashes) k c.insert_hashes.ensures);
     }
