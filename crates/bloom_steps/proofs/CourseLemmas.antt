@@ -10,5 +10,7 @@ pub use Rattle.bloom_steps.proofs.RunLemmas.Changes.{same-answer, and_cases}
 pub use Rattle.bloom_steps.proofs.RunLemmas.PartyRecords.{did-get, did-got, did_of-same}
 pub use Rattle.bloom_steps.proofs.RunLemmas.PartyRecords.{own_of_record, record_of_own}
 pub use Rattle.bloom_steps.proofs.RunLemmas.OwnScripts.{HasRecord}
+-- the record that set a position
+pub use Rattle.bloom_steps.proofs.RunLemmas.Origins.{decider}
 -- a set that has all positions of a hash
 pub use Rattle.bloom_steps.proofs.RunLemmas.Positions.{are_in-all, both_alike}

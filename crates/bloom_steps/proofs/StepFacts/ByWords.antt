@@ -57,7 +57,7 @@ found_one-script = record {
         (λ l. absurd (omega (arith, l))),
         (
           (λ l.
-          (false, refl, ((λ e. (0, took (Or 0 3) 1 Running, refl, lacks-one)), (λ some. refl)))),
+              (false, refl, ((λ e. (0, took (Or 0 3) 1 Running, refl, lacks-one)), (λ some. refl)))),
           tt,
         ),
       );
