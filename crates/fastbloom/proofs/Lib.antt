@@ -8,7 +8,7 @@ pub mod FillLemmas
 mod FormLemmas
 mod GrowthFacts
 mod InsertedLemmas
-mod LiveStoreFacts
+mod LentStepFacts
 mod LoadedFacts
 mod MadeFacts
 mod OnesFacts
