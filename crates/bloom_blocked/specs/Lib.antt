@@ -4,6 +4,8 @@ pub mod BlockedFile
 pub mod BlockedLaws
 pub mod BlockedSizing
 pub mod InsertLaws
+pub mod LineCourses
+pub mod LineEnds
 pub mod LineRefusals
 pub mod LineSteps
 pub mod Lines

@@ -2,6 +2,7 @@
 ghost use Rattle.bloom_blocked.specs.BlockedData.{LineDataLaw};
 ghost use Rattle.bloom_blocked.specs.BlockedFile.{BlockedRefusedLaw, LineFileLaw, LineReadableLaw, NotBlockedRefusedLaw};
 ghost use Rattle.bloom_blocked.specs.BlockedLaws.{InsertInLineLaw, KeptByInsertInLineLaw, KeptByInsertsInLinesLaw, KeptByUnionOfLinesLaw, UnionOfLinesLaw, IntersectionOfLinesLaw, ClearOfLinesLaw, OneByOneLaw};
+ghost use Rattle.bloom_blocked.specs.LineCourses.{LineCourseLaw, LiveScriptLaw};
 ghost use Rattle.bloom_blocked.specs.Lines.{LinePositionsLaw, LineSubsetLaw, LineRangeLaw, OneLineLaw};
 
 /// The positions of a hash are the first of its chain, all in one line, and within the lines.
@@ -31,6 +32,15 @@ pub fn contained_stays<S>()
 /// After a union every hash is contained that either filter contained. Other hashes may be too.
 pub fn union_contains<S>()
     ensures { UnionOfLinesLaw S }
+{}
+
+/// In every interleaving of the calls on a shared blocked filter each bit is what the last step that
+/// decides it made it, an insert returns false exactly if it set a bit itself, a finished insert is
+/// found unless a position of it was cleared since it began, and a look-up is right at one moment.
+/// Inserts, look-ups and takes lose nothing. A live call is made as a script of such a course.
+pub fn interleavings_in_lines()
+    ensures courses { LineCourseLaw }
+    ensures live { LiveScriptLaw }
 {}
 
 /// After an intersection exactly the hashes are contained that both filters contained.

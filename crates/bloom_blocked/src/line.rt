@@ -1,15 +1,15 @@
 //! Calls by hash on the line of a hash, among words that threads share, wherever they lie.
-ghost use Rattle.std.specs.Prelude.{◌≡◌, ◌↔◌, ℕ, ◌<◌, ◌≤◌, true, length, All};
+ghost use Rattle.std.specs.Prelude.{◌≡◌, ℕ, ◌≤◌, length, All};
 ghost use Rattle.bloom_parts.specs.Content.{content, AreWords};
 ghost use Rattle.bloom_parts.specs.Places.{positions};
 ghost use Rattle.bloom_blocked.specs.Lines.{inner_of};
-ghost use Rattle.bloom_blocked.specs.LineSteps.{HasAll, LooksInLine, SetsInLine, TellsMask, WasSetInLine};
+ghost use Rattle.bloom_blocked.specs.LineSteps.{LooksInLine, SetsInLine, WasSetInLine};
 
 use crate::many::{LINES_TOGETHER, WORDS_TO_READ_AHEAD};
 use crate::words::{LINE, inner, line_start, with_range};
-use bloom_parts::bit_vector::{Loads, Turn, TurnWords};
+use bloom_parts::bit_vector::{Loads, TurnWords};
 use bloom_parts::slices::insert_in_few_words;
-use bloom_steps::{Call, SpanStore, drive};
+use bloom_steps::{Call, SpanStore, drive, set_masks};
 
 // The words of a line where the positions of a hash are set, and no other.
 #[inline(always)]
@@ -24,27 +24,6 @@ fn masks_of(num_hashes: u32, hash: u64) -> [u64; LINE]
     masks
 }
 
-// Whether a word has all bits of a mask.
-#[inline(always)]
-fn has_all(word: u64, mask: u64) -> bool
-    ensures { (result ≡ true) ↔ HasAll word mask }
-{
-    word & mask == mask
-}
-
-// Sets the bits of a mask in a word, and returns whether all were found set. An empty mask takes no
-// step.
-#[inline(always)]
-fn set_mask<W: TurnWords>(words: &W, turn: &mut Turn, word: usize, mask: u64) -> bool
-    requires { word < (W.vector words.now).count }
-    ensures { TellsMask (W.vector words.now) word mask turn.old turn.new result }
-{
-    if mask == 0 {
-        return true;
-    }
-    has_all(words.fetch_or(turn, word, mask), mask)
-}
-
 /// Sets all positions of a hash in its line, and returns whether its own steps found all of them
 /// set already. It makes one step for each word that has positions.
 #[inline(always)]
@@ -53,13 +32,8 @@ pub fn set_in_line<W: TurnWords>(words: &W, num_hashes: u32, hash: u64) -> bool
     ensures { SetsInLine (W.vector words.now) num_hashes hash result }
 {
     let masks = masks_of(num_hashes, hash);
-    let start = line_start(words.len(), hash);
-    let mut turn = Turn::first();
-    let mut all_set = true;
-    'words: for i in 0..LINE {
-        all_set &= set_mask(words, &mut turn, start + i, masks[i]);
-    }
-    all_set
+    let mut store = SpanStore::new(words, words, line_start(words.len(), hash), LINE);
+    set_masks(&mut store, &masks)
 }
 
 /// Whether all positions of a hash are found set in its line, one after the other, up to the first

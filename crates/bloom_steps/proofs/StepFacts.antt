@@ -1,5 +1,6 @@
 pub mod Asked
 pub mod Beginnings
+pub mod ByWords
 pub mod Counts
 pub mod Deciding
 pub mod Machines

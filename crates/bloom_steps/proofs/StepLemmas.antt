@@ -1,4 +1,5 @@
 pub mod Asking
+pub mod ByWordsAlike
 pub mod Completing
 pub mod Deciding
 pub mod Driven
@@ -6,6 +7,9 @@ pub mod Driving
 pub mod Finding
 pub mod Going
 pub mod Growing
+pub mod MaskBits
+pub mod MaskSteps
+pub mod Masked
 pub mod Members
 pub mod Plans
 pub mod Replying

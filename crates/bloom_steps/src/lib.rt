@@ -6,5 +6,5 @@ mod steps;
 
 pub use steps::{
     Call, End, Event, Machine, MemoryStore, Record, SpanStore, Step, Trace, WordStore, calls,
-    drive, run,
+    drive, run, set_masks,
 };

@@ -6,6 +6,7 @@
 pub mod calls;
 mod driver;
 mod machine;
+mod masks;
 mod memory;
 mod runner;
 mod span_store;
@@ -15,6 +16,7 @@ mod vocabulary;
 
 pub use driver::drive;
 pub use machine::Machine;
+pub use masks::set_masks;
 pub use memory::MemoryStore;
 pub use runner::run;
 pub use span_store::SpanStore;

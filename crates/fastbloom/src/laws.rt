@@ -1,10 +1,11 @@
-//! The laws of all that this library holds: of plain filters, of word steps, of seated filters, and
-//! of filters that workers fill. These functions do nothing: their contracts are the laws.
+//! The laws of all that this library holds: of plain filters, of word steps, of shared blocked
+//! filters, of seated filters, and of filters that workers fill. These functions do nothing: their contracts are the laws.
 ghost use Rattle.fastbloom.specs.Fill.{UnionOfPositionsLaw, AnyCuttingLaw, FilledByInsertsLaw, FilledByUnionLaw, FilledContainsLaw};
 
 pub use crate::seated::laws::{
     inserted_stays_known, met_is_found, passes_are_few, steps_of_words, sure_is_found,
 };
+pub use bloom_blocked::laws::interleavings_in_lines;
 pub use bloom_plain::laws::{
     clear_contains_nothing, contained_stays, data_answer_alike, equality_of_builders,
     equality_of_filters, file_reads_back, insert_answers_contains, inserted_stays_found,

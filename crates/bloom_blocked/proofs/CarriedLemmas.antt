@@ -1,0 +1,110 @@
+-- Records that were carried out on words, one after the other: what each step found, and did.
+use Rattle.std.proofs.Common.{[], ◌&&◌, ◌+◌, ◌/◌, ◌∙◌, ◌∷◌, ◌≡◌, List, None, Some, ap, eq-eqb, if◌then◌else◌, false, inl, inr, map, nat_eq, refl, slice_get, slice_index, suc, sym, take, true, unwrap_or, zero, ℕ}
+use Rattle.std.proofs.lemmas.Bool.{both_ways, eqb-true}
+use Rattle.std.proofs.lemmas.Option.{none-some, same_Some}
+use Rattle.bloom_parts.specs.Content.{bit_is_on, content}
+use Rattle.bloom_parts.specs.Deciders.{decides_nothing}
+use Rattle.bloom_steps.specs.declared.steps.vocabulary.End.{End}
+use Rattle.bloom_steps.specs.declared.steps.vocabulary.Record.{Record}
+use Rattle.bloom_steps.specs.declared.steps.vocabulary.Record.TheVariants.{Began, Did}
+use Rattle.bloom_steps.specs.declared.steps.vocabulary.Step.{Step}
+use Rattle.bloom_steps.specs.declared.steps.vocabulary.Step.TheVariants.{Load, Or}
+use Rattle.bloom_steps.specs.Courses.{Course}
+use Rattle.bloom_steps.specs.Memories.{found_in, words_after_step}
+use Rattle.bloom_steps.specs.Moments.{moment, turns_on}
+use Rattle.bloom_steps.specs.Scripts.{Taken}
+use Rattle.bloom_steps.specs.Steps.{after_records, record_decides, step_decides, word_index}
+use Rattle.bloom_steps.proofs.CourseLemmas.{and_cases, moment-more, turned_on, did_of-same}
+use Rattle.bloom_steps.proofs.StepLemmas.Deciding.{state-first, state-same}
+use Rattle.bloom_steps.proofs.StepLemmas.Writing.{content-step, content-word}
+use Rattle.bloom_blocked.specs.LineCourses.{CarriedOut}
+
+-- a step that was carried out can be taken into the words before
+after-step : (words : List ℕ) (step : Step) (rs : List Record) (p party found : ℕ) (ended : End)
+    → content (words_after_step words step) p
+    ≡ unwrap_or (step_decides step p) (content words p)
+    → after_records (content (words_after_step words step)) rs p
+    ≡ after_records (content words) (Did party step found ended ∷ rs) p
+after-step words step rs p party found ended did =
+    state-same (content (words_after_step words step))
+    (λ q. unwrap_or (step_decides step q) (content words q)) (map record_decides rs) p did
+    ∙ sym (state-first (content words) (step_decides step) (map record_decides rs) p)
+
+-- each bit is what the last step that decides it made it
+pub carried-bits : (words : List ℕ) (rs : List Record) (after : List ℕ) (p : ℕ)
+    → CarriedOut words rs after → content after p ≡ after_records (content words) rs p
+carried-bits words [] after p made = ap (λ w. content w p) made
+carried-bits words (Began party call ∷ rs) after p made =
+    carried-bits words rs after p made
+    ∙ sym (state-first (content words) decides_nothing (map record_decides rs) p)
+carried-bits words (Did party step found ended ∷ rs) after p (within, finds, made) =
+    carried-bits (words_after_step words step) rs after p made
+    ∙ after-step words step rs p party found ended (content-step words step p within)
+
+-- a step that finds its word found each bit there as it was
+pub carried-found : (words : List ℕ) (rs : List Record) (after : List ℕ) → CarriedOut words rs after
+    → (m party : ℕ) (step : Step) (found : ℕ) (ended : End)
+    → slice_get rs m ≡ Some (Did party step found ended)
+    → ((ws : List ℕ) (given : ℕ) → found_in ws given step ≡ slice_index ws (word_index step))
+    → (p : ℕ) → p / 64 ≡ word_index step
+    → bit_is_on found p ≡ after_records (content words) (take m rs) p
+carried-found words [] after made m party step found ended e reads p at = absurd (none-some _ e)
+carried-found words (Began q call ∷ rs) after made zero party step found ended e reads p at =
+    absurd (let f = same_Some _ _ e in cc)
+carried-found words (Began q call ∷ rs) after made (suc m) party step found ended e reads p at =
+    carried-found words rs after made m party step found ended e reads p at
+    ∙ sym (state-first (content words) decides_nothing (map record_decides (take m rs)) p)
+carried-found words (Did q x f d ∷ rs) after (within, finds, made) zero party step found ended e
+    reads p at =
+    let t : Taken = record { step = x; found = f; ended = d } in
+    let u : Taken = record { step = step; found = found; ended = ended } in
+    let same : t ≡ u = did_of-same q party t u (same_Some _ _ e) in
+    let word : found ≡ slice_index words (word_index step) =
+    sym (ap (λ (v : Taken). v.found) same) ∙ finds.1
+    ∙ ap (λ (v : Taken). found_in words finds.0 v.step) same ∙ reads words finds.0 in
+    ap (λ w. bit_is_on w p) word ∙ sym (content-word words (word_index step) p at)
+carried-found words (Did q x f d ∷ rs) after (within, finds, made) (suc m) party step found ended e
+    reads p at =
+    carried-found (words_after_step words x) rs after made m party step found ended e reads p at
+    ∙ after-step words x (take m rs) p q f d (content-step words x p within)
+
+-- a course whose records were carried out
+module _ (run : Course) (made : CarriedOut run.start run.records run.words) where
+  -- a load found each bit as it was
+  pub load-found : (m party word found : ℕ) (ended : End)
+      → slice_get run.records m ≡ Some (Did party (Load word) found ended)
+      → (p : ℕ) → p / 64 ≡ word → bit_is_on found p ≡ moment run m p
+  load-found m party word found ended here p at =
+      carried-found run.start run.records run.words made m party (Load word) found ended here
+      (λ ws given. refl) p at
+
+  -- a step that sets a mask
+  module _ (m party word mask found : ℕ) (ended : End)
+      (here : slice_get run.records m ≡ Some (Did party (Or word mask) found ended)) where
+    -- it found each bit as it was
+    pub or-found : (p : ℕ) → p / 64 ≡ word → bit_is_on found p ≡ moment run m p
+    or-found p at =
+        carried-found run.start run.records run.words made m party (Or word mask) found ended here
+        (λ ws given. refl) p at
+
+    -- it set each bit of its mask
+    pub or-sets : (p : ℕ) → p / 64 ≡ word → bit_is_on mask p ≡ true → moment run (m + 1) p ≡ true
+    or-sets p at on =
+        moment-more run m (Did party (Or word mask) found ended) p here
+        ∙ ap (λ b. unwrap_or (if b && bit_is_on mask p then Some true else None) (moment run m p))
+        (eq-eqb (p / 64) word at)
+        ∙ ap (λ b. unwrap_or (if b then Some true else None) (moment run m p)) on
+
+    -- it set no other
+    pub or-only : (p : ℕ) → turns_on run m p ≡ true
+        → (p / 64 ≡ word) × (bit_is_on mask p ≡ true) × (moment run m p ≡ false)
+    or-only p turns =
+        let (off, after) = turned_on run m p turns in
+        elim (and_cases (nat_eq (p / 64) word) (bit_is_on mask p)) [
+          | inl both ↦ (eqb-true (p / 64) word both.0, both.1, off)
+          | inr none ↦
+              let stays =
+              moment-more run m (Did party (Or word mask) found ended) p here
+              ∙ ap (λ b. unwrap_or (if b then Some true else None) (moment run m p)) none in
+              absurd (both_ways (moment run m p) off (sym stays ∙ after))
+        ]

@@ -1,0 +1,75 @@
+-- What inserts, look-ups and takes lose in every interleaving on a blocked filter that threads
+-- share: nothing. It is said of finished courses, and is this project's own.
+use Rattle.std.specs.Prelude.{ℕ, ◌+◌, ◌/◌, ◌≤◌, ◌<◌, ◌≡◌, ◌↔◌, ◌⊎◌, Bool, true, false, length, Some, slice_get}
+use Rattle.bloom_parts.specs.Content.{bit_is_on, content}
+use Rattle.bloom_steps.specs.declared.steps.vocabulary.Step.TheVariants.{Take}
+use Rattle.bloom_steps.specs.declared.steps.vocabulary.Call.{Call}
+use Rattle.bloom_steps.specs.declared.steps.vocabulary.Call.TheVariants.{Insert}
+use Rattle.bloom_steps.specs.declared.steps.vocabulary.End.{End}
+use Rattle.bloom_steps.specs.declared.steps.vocabulary.Record.TheVariants.{Did}
+use Rattle.bloom_steps.specs.Courses.{Course}
+use Rattle.bloom_steps.specs.Interleavings.{adds_or_takes}
+use Rattle.bloom_steps.specs.Moments.{IsFinished, IsStepAt, moment}
+use Rattle.bloom_steps.specs.Plans.{goes_by_hash, plan_of}
+use Rattle.bloom_blocked.specs.Lines.{line_positions}
+
+-- record m is a step of a finished call of its party, and the call passes a test
+pub record IsStepOf (test : Call → Bool) (run : Course) (m party : ℕ) : Type 0 where
+  pub call : Call
+  pub passes : test call ≡ true
+  pub began : ℕ
+  pub last : ℕ
+  pub ended : End
+  pub finished : IsFinished run party call began last ended
+  pub later : began < m
+  pub upto : m ≤ last
+
+-- each step is one of a finished call that passes a test
+abbrev pub EachStepOf : (Call → Bool) → Course → Type 0
+EachStepOf test run =
+    (m party : ℕ) (ended : End) → IsStepAt run.records m party ended → IsStepOf test run m party
+
+-- some finished insert has the position
+pub record IsInsertedInLine (lines k : ℕ) (run : Course) (p : ℕ) : Type 0 where
+  pub party : ℕ
+  pub hash : ℕ
+  pub began : ℕ
+  pub last : ℕ
+  pub ended : End
+  pub finished : IsFinished run party (Insert hash) began last ended
+  pub position : line_positions lines k hash p ≡ true
+
+-- where each step is one of an insert or a look-up, in the end just those positions are set that
+-- were set at the start or are of an insert, whatever the order
+abbrev pub EndsWithInserts : ℕ → ℕ → Course → Type 0
+EndsWithInserts lines k run =
+    EachStepOf (λ call. goes_by_hash (plan_of call)) run
+    → (p : ℕ) → (content run.words p ≡ true)
+    ↔ ((content run.start p ≡ true) ⊎ IsInsertedInLine lines k run p)
+
+-- at a moment or later, a take found the position set
+pub record IsTakenSince (run : Course) (m p : ℕ) : Type 0 where
+  pub at : ℕ
+  pub since : m ≤ at
+  pub party : ℕ
+  pub found : ℕ
+  pub ended : End
+  pub takes : slice_get run.records at ≡ Some (Did party (Take (p / 64)) found ended)
+  pub on : bit_is_on found p ≡ true
+
+-- where each step is one of an insert, a look-up or a take, a position that is set at some moment
+-- is set in the end, or a take found it since
+abbrev pub LosesNoPosition : Course → Type 0
+LosesNoPosition run =
+    EachStepOf adds_or_takes run
+    → (m p : ℕ) → m ≤ length run.records → moment run m p ≡ true
+    → (content run.words p ≡ true) ⊎ IsTakenSince run m p
+
+-- a take finds just the positions of its word that are set, and clears them: so it makes up none,
+-- and none is taken twice
+abbrev pub TakesWhatIsThere : Course → Type 0
+TakesWhatIsThere run =
+    (m party word found : ℕ) (ended : End)
+    → slice_get run.records m ≡ Some (Did party (Take word) found ended)
+    → (p : ℕ) → p / 64 ≡ word
+    → (bit_is_on found p ≡ moment run m p) × (moment run (m + 1) p ≡ false)
