@@ -1,13 +1,15 @@
-"""Blocked filters: what a model says of drawn sessions, and what the class adds to the calls of C."""
+"""Blocked filters: what a model says of drawn sessions, and what Python adds to the calls of C."""
 
 import array
 import copy
 import ctypes
+import math
 import os
 import pickle
 import tempfile
 import threading
 import unittest
+from fractions import Fraction
 from pathlib import Path
 from unittest import mock
 
@@ -270,6 +272,76 @@ class Blocked(unittest.TestCase):
         for items, rate in ((-1, "1/2"), (10, 1)):
             self.assertRaises(ValueError, BlockedFilter, items, rate)
         self.assertIn("BlockedFilter", fastbloom.__all__)
+
+
+class Rates(unittest.TestCase):
+    def test_the_rate_of_lines(self):
+        """It is the mean, of all lines, of a power of the share of bits that are set."""
+        full, empty, one = b"\xff" * 64, bytes(64), b"\x10" + bytes(63)
+        for lines, hashes, wanted in (
+            (empty, 3, 0),
+            (full, 3, 1),
+            (full + empty, 7, Fraction(1, 2)),
+            (one, 2, Fraction(1, 2**18)),
+            (one + full + empty + empty, 1, Fraction(513, 2048)),
+        ):
+            seen = SharedBlockedFilter.over(bytearray(lines), hashes).take()
+            self.assertEqual(seen.exact_false_positive_rate(), (wanted, wanted))
+            self.assertEqual(seen.false_positive_rate(), (wanted, wanted))
+        seen = SharedBlockedFilter.over(bytearray(one + empty + empty), 1).take()
+        low, high = seen.exact_false_positive_rate()
+        self.assertTrue(low < Fraction(1, 1536) < high and high - low == Fraction(1, 2**63))
+
+    def test_about_how_many_items_lines_have(self):
+        """Of n items with one position, half of a line is set once n = 512 ln 2 = 354.9."""
+        half = SharedBlockedFilter.over(bytearray(b"\x0f" * 64), 1)
+        for seen in (half, half.load()):
+            self.assertEqual((seen.estimate(), seen.approx_items), ((354, 355), 354.5))
+        self.assertEqual(BlockedFilter(10, "1/2").estimate(), (0, 0))
+        full = SharedBlockedFilter.over(bytearray(b"\xff" * 64), 1).load()
+        self.assertEqual((full.estimate(), full.approx_items), ((0, None), math.inf))
+        self.assertEqual(half.load().estimated_union(full), (0, None))
+        self.assertEqual(half.load().estimated_common(full), (0, None))
+        self.assertEqual(full.estimated_common(half.load()), (0, None))
+        self.assertEqual(half.load().estimated_common(half.load()), (353, 356))
+
+    def test_the_model_of_lines_fits_filters_that_were_made(self):
+        for rate in ("1/100", "1/1000"):
+            seen, other = BlockedFilter(50_000, rate), BlockedFilter(50_000, rate)
+            seen.add_hashes(row(1, 0, 50_000))
+            other.add_hashes(row(1, 25_000, 50_000))
+            self.assertTrue(49_500 < seen.approx_items < 50_500)
+            for (low, high), wanted in (
+                (seen.estimated_union(other), 75_000),
+                (seen.estimated_common(other), 25_000),
+            ):
+                self.assertTrue(0.98 * wanted < low <= high < 1.02 * wanted, (low, high))
+            expected = seen.false_positive_rate()[1] * 200_000
+            found = seen.contains_hashes(row(2, 0, 200_000)).count()
+            self.assertTrue(abs(found - expected) < 5 * math.sqrt(expected), (found, expected))
+            self.assertTrue(49_500 < seen.capacity_for(rate) < 55_000)
+
+    def test_how_many_items_lines_take(self):
+        """By one hash, of n items in a thousand lines, a bit is set at a rate 1 - e^(-n/512000)."""
+        seen = SharedBlockedFilter.over(bytearray(64_000), 1)
+        for rate, wanted in (("1/2", 354_891), ("1/1000", 512), ("1/1000000", 0)):
+            self.assertLessEqual(abs(seen.capacity_for(rate) - wanted), 1)
+            self.assertEqual(seen.load().capacity_for(rate), seen.capacity_for(rate))
+
+    def test_sets(self):
+        few, more = small("crab"), small("crab", "eel")
+        self.assertTrue(few <= more and few < more and more > few and few.issubset(more))
+        self.assertFalse(more <= few or few < few)
+        self.assertEqual(few.union(["eel"], more), more)
+        self.assertEqual(more.intersection(few, ["crab", "whale"]), few)
+        kept = more.copy()
+        kept.intersection_update(few)
+        self.assertEqual(kept, few)
+        for other in (Filter(1000, "1/1000"), {"crab"}):
+            for call in (few.issubset, few.issuperset, few.estimated_union, few.estimated_common):
+                self.assertRaises(TypeError, call, other)
+        for call in (few.issubset, few.estimated_union, few.estimated_common, few.union):
+            self.assertRaises(ValueError, call, BlockedFilter(10, "1/2"))
 
 
 class Files(unittest.TestCase):

@@ -17,6 +17,7 @@ import storm
 from fastbloom import BlockedFilter, Filter, Refusal, SharedBlockedFilter, SharedFilter
 
 COUNTING_KEY = bytes(range(16))
+BLOCKED = (BlockedFilter, SharedBlockedFilter)
 # Entries of access control lists, as the file acl_ea.h of Linux numbers them: a tag, rights, and a
 # number for named ones alone.
 NOBODY = 2**32 - 1
@@ -113,6 +114,28 @@ class Files(unittest.TestCase):
             self.assertRaises(ValueError, read)
             for most in (2**32 - 1, None):
                 self.assertEqual(read(max_hashes=most).num_hashes, 2**32 - 1)
+
+    def test_a_file_with_many_words_is_refused(self):
+        """The head is enough for it: a sparse file of a terabyte takes no memory."""
+        two = bytearray(Filter.from_bytes(WORKED).to_bytes(sealed=False)) + bytes(8)
+        two[16] = 2
+        for read in self.readers(bytes(two)):
+            self.assertEqual(read(max_words=2).num_words, 2)
+            with self.assertRaises(ValueError) as told:
+                read(max_words=1)
+            self.assertEqual(str(told.exception), "the file has 2 words, and max_words is 1")
+        lines = BlockedFilter(10, "1/2").to_bytes(sealed=False)
+        for head, filters in ((two, (Filter, SharedFilter)), (lines, BLOCKED)):
+            head = bytearray(head[:64])
+            head[16:24] = (2**37).to_bytes(8, "little")
+            self.path.write_bytes(head)
+            os.truncate(self.path, 64 + 2**40)
+            calls = [filters[0].load, filters[1].map]
+            calls.append(lambda path, **options: filters[0].load(path, mapped=True, **options))
+            for call in calls:
+                with self.assertRaisesRegex(ValueError, f"{2**37} words, and max_words is 1000"):
+                    call(self.path, max_words=1000)
+            self.path.unlink()
 
     def test_what_is_added_to_a_loaded_filter_stays_its_own(self):
         for mapped in (False, True):

@@ -9,10 +9,11 @@ import sys
 import tempfile
 import threading
 import unittest
+from fractions import Fraction
 from multiprocessing import shared_memory
 from pathlib import Path
 
-from fastbloom import Filter, Refusal, SharedBlockedFilter, SharedFilter
+from fastbloom import BlockedFilter, Filter, Refusal, SharedBlockedFilter, SharedFilter
 
 RUNS = int(os.environ.get("FASTBLOOM_RUNS", "20"))
 HASHES, THREADS, WORKERS, WORDS = 1_000_000, 8, 4, 30_011
@@ -207,6 +208,42 @@ class Calls(unittest.TestCase):
             one &= zeros(5, 3)
         with self.assertRaises(TypeError):
             one |= Filter(1, "1/2")
+
+    def test_two_filters_make_a_plain_one_and_are_compared(self):
+        for filters, plain in ((SharedFilter, Filter), (SharedBlockedFilter, BlockedFilter)):
+            less, more, other = (filters(1000, "1/1000") for _ in range(3))
+            less.update(["crab"])
+            more.update(["crab", "eel"])
+            other.update(["eel", "whale"])
+            for made, items in ((more | other, ["crab", "eel", "whale"]), (more & other, ["eel"])):
+                wanted = plain(1000, "1/1000")
+                wanted.update(items)
+                self.assertTrue(type(made) is plain and wanted <= made)
+            self.assertEqual((more | less, more & less), (more.load(), less.load()))
+            self.assertTrue(less <= more and less < more and more >= less and more > less)
+            self.assertTrue(less.issubset(more) and more.issuperset(less) and less <= less)
+            self.assertFalse(more <= less or less < less or less > less or other <= more)
+            for call in ("__or__", "__and__", "__le__", "__ge__"):
+                self.assertIs(getattr(less, call)(less.load()), NotImplemented)
+                self.assertRaises(ValueError, getattr(less, call), filters(10, "1/2"))
+            self.assertRaises(TypeError, less.issubset, {"crab"})
+            less.release()
+            self.assertRaises(ValueError, less.issubset, more)
+
+    def test_how_many_items_a_size_takes(self):
+        """By one hash, of n items each bit is set at a rate of 1 - (63/64)^n: half at 44.01."""
+        seen = zeros(1, 1)
+        self.assertEqual((seen.capacity_for("1/2"), seen.load().capacity_for("1/2")), (44, 44))
+        self.assertEqual((seen.capacity_for("1/64"), seen.capacity_for("1/65")), (1, 0))
+        self.assertEqual(seen.expected_rate(1)[0], seen.load().expected_rate(1)[0])
+        for rate in ("1/1000", "1/2", "1/1000000"):
+            seen = Filter(10_000, rate)
+            capacity = seen.capacity_for(rate)
+            at, above = (seen.exact_expected_false_positive_rate(capacity + it) for it in (0, 1))
+            self.assertTrue(at[1] <= Fraction(rate) < above[1])
+            self.assertTrue(9_900 < capacity < 10_500, capacity)
+        self.assertRaises(ValueError, seen.capacity_for, 1)
+        self.assertRaises(TypeError, seen.capacity_for, None)
 
     def test_hashes_of_buffers(self):
         seen = zeros(5, 1)

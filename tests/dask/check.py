@@ -217,7 +217,7 @@ def on_own_workers(checks):
     )
     checks.fails(
         "a filter for which there is no memory",
-        ["shards: MemoryError\n"],
+        ["shards: no memory of "],
         [
             "sh",
             "-c",
@@ -327,14 +327,14 @@ def is_done_again(checks, client):
 def grows_linearly(checks):
     """What `build` does before the workers begin takes time by the number of parts."""
     client = mock.Mock(compute=lambda made, retries: made, nthreads=lambda: {"worker": 4})
-    times = []
-    for count in 10_000, 40_000:
+
+    def seconds(count):
         began = time.process_time()
         bloom_dask.build(client, [f"/{number}" for number in range(count)], 1000, "1/1000")
-        times.append(time.process_time() - began)
-    checks.check(
-        "four times the parts take less than nine times as long", True, times[1] < 9 * times[0]
-    )
+        return time.process_time() - began
+
+    few, many = (min(seconds(count) for _ in range(5)) for count in (20_000, 40_000))
+    checks.check("twice the parts take less than three times as long", True, many < 3 * few)
     tracemalloc.start()
     bloom_dask.build(client, ["keys"], 50_000_000, "1/1000")
     checks.check(

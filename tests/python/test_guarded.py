@@ -19,7 +19,8 @@ from guarded import Guarded  # noqa: E402
 WRITES = {
     "an insert": "INSERT INTO store VALUES ('eel', 9)",
     "a replacement": "REPLACE INTO store VALUES ('eel', 9)",
-    "an insert or update": "INSERT INTO store VALUES ('eel', 9) ON CONFLICT DO UPDATE SET value = 9",
+    "an insert or update": "INSERT INTO store VALUES ('eel', 9)"
+    " ON CONFLICT DO UPDATE SET value = 9",
     "another key": "UPDATE store SET key = 'eel', value = 9",
     "a table made anew": """
         BEGIN;
