@@ -1,5 +1,6 @@
 //! The laws of all that this library holds: of plain filters, of word steps, of shared blocked
-//! filters, of seated filters, and of filters that workers fill. These functions do nothing: their contracts are the laws.
+//! filters, of seated filters, and of filters that workers fill. These functions do nothing: their
+//! contracts are the laws.
 ghost use Rattle.fastbloom.specs.Fill.{UnionOfPositionsLaw, AnyCuttingLaw, FilledByInsertsLaw, FilledByUnionLaw, FilledContainsLaw};
 
 pub use crate::seated::laws::{

@@ -56,8 +56,11 @@ found_one-script = record {
       each-member _ found_one (
         (λ l. absurd (omega (arith, l))),
         (
-          (λ l.
-              (false, refl, ((λ e. (0, took (Or 0 3) 1 Running, refl, lacks-one)), (λ some. refl)))),
+          (λ l. (
+            false,
+            refl,
+            ((λ e. (0, took (Or 0 3) 1 Running, refl, lacks-one)), (λ some. refl)),
+          )),
           tt,
         ),
       );
