@@ -1,6 +1,6 @@
 -- Laws of inserts of many hashes into a blocked filter: of none, and of two lists, one after the
 -- other.
-use Rattle.std.proofs.Common.{◌≡◌, ℕ, ◌/◌, Bool, ◌||◌, List, [], ◌++◌, refl, sym, ◌∙◌, ap}
+use Rattle.std.proofs.Common.{ℕ, ◌/◌, Bool, ◌||◌, List, [], ◌++◌, refl, sym, ◌∙◌, ap}
 use Rattle.std.specs.List.{list_any}
 use Rattle.std.proofs.Math.Bool.{or-false, or_assoc}
 use Rattle.std.proofs.lemmas.List.Folds.{list_any-append}
