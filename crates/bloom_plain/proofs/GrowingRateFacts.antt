@@ -1,6 +1,6 @@
 -- Rates of several filters together, each at a case that holds and at cases as near as can be that
 -- don't.
-use Rattle.std.proofs.Common.{◌≡◌, ℕ, ◌≤◌, Bool, true, false, eqb, [], ◌∷◌, refl, arith, lit≤}
+use Rattle.std.proofs.Common.{◌≡◌, ℕ, Bool, true, false, eqb, [], ◌∷◌, refl, arith, lit≤}
 use Rattle.bloom_parts.specs.Content.{content}
 use Rattle.bloom_parts.specs.Counts.{count_on}
 use Rattle.bloom_parts.specs.Draws.{sum_below, sum_draws, all_in}

@@ -2,7 +2,7 @@
 -- set of positions, or each eight as a line of 512 bits that has all positions of a hash. Of one
 -- set these definitions are those of `File`, `FileRefusals` and `FileReads`. The numbers of the
 -- layouts and the order of the reasons are this project's choice.
-use Rattle.std.specs.Prelude.{◌≡◌, ◌⊎◌, ℕ, ◌+◌, ◌%◌, ◌^◌, ◌<◌, List, [], ◌∷◌, ◌++◌, length, take, drop, not, nat_eq, if◌then◌else◌, Option, Some, None, IfSome, ⊤}
+use Rattle.std.specs.Prelude.{◌≡◌, ◌⊎◌, ℕ, ◌%◌, ◌^◌, ◌<◌, List, [], ◌∷◌, ◌++◌, length, take, drop, not, nat_eq, if◌then◌else◌, Option, Some, None, IfSome, ⊤}
 use Rattle.std.specs.Io.KnownBytes.{Consumes, IsAtEnd}
 use Rattle.std.specs.Option.{option_or}
 use Rattle.bloom_parts.specs.Sip.{sip}
