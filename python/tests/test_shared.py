@@ -230,6 +230,16 @@ class Calls(unittest.TestCase):
             less.release()
             self.assertRaises(ValueError, less.issubset, more)
 
+    def test_a_filter_tells_its_rate_and_its_items_as_a_plain_one_does(self):
+        for filters in (SharedFilter, SharedBlockedFilter):
+            seen = filters(1000, "1/1000")
+            seen.update(f"item{number}" for number in range(500))
+            plain = seen.load()
+            self.assertEqual(seen.estimate(), plain.estimate())
+            self.assertEqual(seen.approx_items, plain.approx_items)
+            self.assertEqual(seen.false_positive_rate(), plain.false_positive_rate())
+            self.assertTrue(490 < seen.approx_items < 510)
+
     def test_how_many_items_a_size_takes(self):
         """By one hash, of n items each bit is set at a rate of 1 - (63/64)^n: half at 44.01."""
         seen = zeros(1, 1)

@@ -15,8 +15,8 @@ the shared library fastbloom_c; importing the package raises ImportError where t
 """
 
 from ._blocked import BlockedFilter
-from ._checks import Refusal
-from ._filter import Estimate, Filter
+from ._checks import Estimate, Refusal
+from ._filter import Filter
 from ._mask import Mask
 from ._protocols import AnyFilter
 from ._rotating import RotatingFilter

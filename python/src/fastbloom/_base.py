@@ -1,29 +1,20 @@
-"""What all kinds of filters share, and what those of whole lines and of single words do."""
+"""What all kinds of filters have."""
 
 from __future__ import annotations
 
 import ctypes
+import math
 import typing
 from fractions import Fraction
-from typing import (
-    TYPE_CHECKING,
-    Any,
-    Callable,
-    ClassVar,
-    Generic,
-    Iterable,
-    List,
-    Tuple,
-    TypeVar,
-    Union,
-)
+from typing import TYPE_CHECKING, Any, Callable, ClassVar, Generic, Iterable, TypeVar, Union
 
 from . import _library as library
-from ._checks import check, hash_value, number_of_items, rate_parts
+from ._checks import Estimate, check, hash_value, number_of_items, rate_parts
 from ._items import Buffer, Item, Rate, bytes_of, check_many, plain_bytes
 from ._locks import alone, alone_with
 from ._many import Hashes, each_part, told, words_of
 from ._mask import Mask
+from ._rates import rounded_outward
 
 if TYPE_CHECKING:
     from typing_extensions import Self as Self
@@ -34,18 +25,22 @@ Kind = TypeVar("Kind", bound="Base[Any]")  # the class of the filters that one t
 
 
 class Base(Generic[Kind]):
-    """A set of texts or bytes with no false negatives, and with false positives at a chosen rate.
-
-    Items are `str`, which count as their UTF-8 bytes, and bytes-like objects. Everything else
-    raises TypeError, and a `str` that has no UTF-8 raises UnicodeEncodeError.
-    """
+    """What all kinds of filters have. `Filter` says what an item is."""
 
     __slots__ = ("_view", "_words", "_num_hashes", "_key", "_lock", "__weakref__")
     _calls: ClassVar[library.Calls]
     _kind: ClassVar[Any]  # the class of those that it takes in
     _unit: ClassVar[int]  # of so many bytes its words are made
+    _new_lock: ClassVar[Any]
+    _new_memory: ClassVar[Any]  # memory of so many words, all of them clear
+    _words_in: ClassVar[Any]  # the words in a view, as the calls take them
+    _copy: Callable[[], Any]  # a plain filter with its words, as they are at one instant, or loaded
+    _now: Callable[[], Any]  # itself, or a plain filter with its words as they are loaded
+    estimate: Callable[[], Estimate]
+    exact_false_positive_rate: Callable[[], tuple[Fraction, Fraction]]
+    _mean_rate: Callable[[int], Union[Fraction, float]]  # once it has so many items, or above it
     _view: memoryview
-    _words: Tuple[Any, ...]  # as the calls take them
+    _words: tuple[Any, ...]
     _num_hashes: int
     _key: bytes
     _lock: Any
@@ -63,16 +58,6 @@ class Base(Generic[Kind]):
         check(self._calls.plan(*rate_parts(rate), items, words, hashes))
         self._take(self._new_memory(words.value), hashes.value, key)
 
-    @classmethod
-    def _new_memory(cls, num_words: int) -> memoryview:
-        """Memory of this many words, all of them clear."""
-        raise NotImplementedError
-
-    @staticmethod
-    def _words_in(view: memoryview) -> Tuple[Any, ...]:
-        """The words of memory, as the calls take them."""
-        raise NotImplementedError
-
     def _take(self, view: memoryview, num_hashes: int, key: Buffer) -> None:
         """Takes the words that lie in a view, which keeps their memory where it is."""
         key = plain_bytes(key, "a key is a bytes-like object")
@@ -83,10 +68,6 @@ class Base(Generic[Kind]):
         self._words = self._words_in(view)
         self._view, self._num_hashes, self._key = view, num_hashes, key
         self._lock = self._new_lock()
-
-    @staticmethod
-    def _new_lock() -> Any:
-        raise NotImplementedError
 
     @classmethod
     def _of(cls, view: memoryview, num_hashes: int, key: Buffer) -> Self:
@@ -119,8 +100,6 @@ class Base(Generic[Kind]):
         """The size, and whether there is a key. The key itself isn't shown: it may be secret."""
         key = "a key" if any(self._key) else "the zero key"
         return f"<{type(self).__name__}: {self.num_bits} bits, {self._num_hashes} hashes, {key}>"
-
-    # One item
 
     @alone
     def add(self, item: Item) -> bool:
@@ -180,12 +159,12 @@ class Base(Generic[Kind]):
     def _add_hashed(self, hashes: Hashes) -> None:
         self._calls.insert_hashes(*self._words, self._num_hashes, *hashes)
 
-    def contains_many(self, items: Iterable[Item]) -> List[bool]:
+    def contains_many(self, items: Iterable[Item]) -> list[bool]:
         """Whether each item of an iterable is contained, in their order, many by one call.
 
         An item that is refused, and a single `str` or bytes-like object, raise as in `update`.
         """
-        answers: List[bool] = []
+        answers: list[bool] = []
 
         def ask(hashes: Hashes) -> None:
             answers.extend(self._tell(self._calls.contains_hashes, hashes).tolist())
@@ -231,10 +210,6 @@ class Base(Generic[Kind]):
         """How many of its bits are set."""
         return self._calls.count_ones(*self._words)
 
-    def _mean_rate(self, items: int) -> Union[Fraction, float]:
-        """The mean rate of false positives once it has this many items, or what is above it."""
-        raise NotImplementedError
-
     def capacity_for(self, rate: Rate) -> int:
         """How many items it takes at a mean rate of false positives, of its size as it is.
 
@@ -250,6 +225,16 @@ class Base(Generic[Kind]):
             middle = (low + high) // 2
             low, high = (middle, high) if self._mean_rate(middle) <= wanted else (low, middle)
         return low
+
+    @property
+    def approx_items(self) -> float:
+        """About how many items are in it: the middle of `estimate`, or infinity."""
+        low, high = self.estimate()
+        return math.inf if high is None else (low + high) / 2
+
+    def false_positive_rate(self) -> tuple[float, float]:
+        """`exact_false_positive_rate` as two floats, rounded outward."""
+        return rounded_outward(self.exact_false_positive_rate())
 
     # Two filters
 
@@ -282,10 +267,6 @@ class Base(Generic[Kind]):
         self._check_shape(other)
         if other is not self:  # the library asks for words that lie apart
             self._with(other, call)
-
-    def _copy(self) -> Any:
-        """A plain filter with the same words, as they are at one instant, or were loaded."""
-        raise NotImplementedError
 
     def __ior__(self, other: Kind) -> Self:
         """Takes in what the other contains.

@@ -5,13 +5,11 @@ from __future__ import annotations
 import math
 from collections import Counter
 from fractions import Fraction
-from typing import Tuple
 
 from . import _library as library
 from ._base import Base, Kind
-from ._filter import Estimate, approx_items_of
+from ._checks import Estimate
 from ._plain import Plain
-from ._rates import rounded_outward
 
 _BITS = 512  # of a line
 _ROUNDING = 1e-9  # more than what the floats of an estimate are wrong by, as a part of it
@@ -41,10 +39,18 @@ class Lines(Base[Kind]):
         items = -self.num_lines * math.log(clear) / drawn
         return Estimate(math.floor(items * (1 - _ROUNDING)), math.ceil(items * (1 + _ROUNDING)))
 
-    @property
-    def approx_items(self) -> float:
-        """About how many items are in it: the middle of `estimate`, or infinity."""
-        return approx_items_of(self.estimate())
+    def exact_false_positive_rate(self) -> tuple[Fraction, Fraction]:
+        """Two bounds of the rate of false positives of the filter as it is.
+
+        It is the part of all look-ups, where line and positions are drawn alike, that return True.
+        The bounds are fractions of 2^63. Each line is counted, which takes a second for a million.
+        """
+        data = bytes(self._now()._view)
+        lines = (data[first : first + self._unit] for first in range(0, len(data), self._unit))
+        ones = Counter(bin(int.from_bytes(line, "little")).count("1") for line in lines)
+        found = sum(count * set_bits**self.num_hashes for set_bits, count in ones.items())
+        units = Fraction(found * 2**63, self.num_lines * _BITS**self.num_hashes)
+        return Fraction(math.floor(units), 2**63), Fraction(math.ceil(units), 2**63)
 
     def _mean_rate(self, items: int) -> float:
         """About the mean rate of false positives: lines have items by Poisson's distribution."""
@@ -83,23 +89,6 @@ class BlockedFilter(Lines["BlockedFilter"], Plain["BlockedFilter"]):
 
     __slots__ = ()
     _calls = library.BLOCKED
-
-    def exact_false_positive_rate(self) -> Tuple[Fraction, Fraction]:
-        """Two bounds of the rate of false positives of the filter as it is.
-
-        It is the part of all look-ups, where line and positions are drawn alike, that return True.
-        The bounds are fractions of 2^63. Each line is counted, which takes a second for a million.
-        """
-        data = bytes(self._copy()._view)
-        lines = (data[first : first + self._unit] for first in range(0, len(data), self._unit))
-        ones = Counter(bin(int.from_bytes(line, "little")).count("1") for line in lines)
-        found = sum(count * set_bits**self.num_hashes for set_bits, count in ones.items())
-        units = Fraction(found * 2**63, self.num_lines * _BITS**self.num_hashes)
-        return Fraction(math.floor(units), 2**63), Fraction(math.ceil(units), 2**63)
-
-    def false_positive_rate(self) -> Tuple[float, float]:
-        """`exact_false_positive_rate` as two floats, rounded outward."""
-        return rounded_outward(self.exact_false_positive_rate())
 
     def estimated_union(self, other: BlockedFilter) -> Estimate:
         """Two bounds of the number of items in the union: as `estimate`.

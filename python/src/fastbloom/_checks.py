@@ -8,11 +8,12 @@ import struct
 from decimal import Decimal
 from fractions import Fraction
 from numbers import Real
-from typing import Callable, Optional, Tuple
+from typing import Callable, NamedTuple, Optional
 
 from . import _library as library
 from ._items import Rate
 
+Limit = Optional[int]  # of what a reader takes
 EMPTY_WORDS, TOO_MANY_WORDS, _ZERO_RATE, CUT, _TOO_LONG, SEAL = 2, 3, 4, 11, 12, 14
 _REASONS = {
     1: "zero bits",
@@ -49,6 +50,13 @@ class Refusal(ValueError):
         return _REASONS.get(self.code, "an unknown refusal")
 
 
+class Estimate(NamedTuple):
+    """Two bounds of a number of items. `high` is None where no number is too many."""
+
+    low: int
+    high: Optional[int]
+
+
 def check(code: int) -> None:
     if code:
         raise Refusal(code)
@@ -75,7 +83,7 @@ def number_of_hashes(num_hashes: int) -> int:
     return num_hashes
 
 
-def rate_parts(rate: Rate) -> Tuple[int, int]:
+def rate_parts(rate: Rate) -> tuple[int, int]:
     """The two parts of a rate. That of a float is read from its shortest text."""
     if not isinstance(rate, (str, Real, Decimal)):
         raise TypeError(f"a rate is a text or a number, not {type(rate).__name__}")
@@ -95,7 +103,7 @@ def rate_parts(rate: Rate) -> Tuple[int, int]:
     return fraction.numerator, fraction.denominator
 
 
-def _read_head(head: bytes, call: Callable[..., int]) -> Tuple[int, int, bytes, int]:
+def _read_head(head: bytes, call: Callable[..., int]) -> tuple[int, int, bytes, int]:
     """The numbers of words and of hashes, the key and the seal that a head tells."""
     words, hashes = ctypes.c_size_t(), ctypes.c_uint32()
     key, seal = ctypes.create_string_buffer(16), ctypes.c_uint64()
@@ -104,15 +112,11 @@ def _read_head(head: bytes, call: Callable[..., int]) -> Tuple[int, int, bytes, 
 
 
 def check_file(
-    head: bytes,
-    size: int,
-    calls: library.Calls,
-    max_hashes: Optional[int],
-    max_words: Optional[int],
-) -> Tuple[int, int, bytes, int]:
+    head: bytes, size: int, calls: library.Calls, *limits: Limit
+) -> tuple[int, int, bytes, int]:
     """What the first 64 bytes of a file of this size tell, if the file isn't refused for them.
 
-    `calls` are those on the kind of filters that is wanted.
+    `calls` are those on the kind of filters that is wanted. The limits are of hashes and of words.
     """
     # Where the head is truncated, good numbers stand for those that it lacks. The last two, by
     # which the kinds differ, are read after the size.
@@ -124,7 +128,7 @@ def check_file(
     if size < wanted or len(head) < HEAD:  # a file that grows may have been short
         raise Refusal(CUT)
     told = _read_head(head, calls.head_read)
-    for name, most, found in ("words", max_words, told[0]), ("hashes", max_hashes, told[1]):
+    for name, found, most in zip(("hashes", "words"), told[1::-1], limits):
         if most is not None and found > most:
             raise ValueError(f"the file has {found} {name}, and max_{name} is {most}")
     return told

@@ -3,28 +3,15 @@
 from __future__ import annotations
 
 import ctypes
-import math
 from fractions import Fraction
-from typing import Any, Callable, NamedTuple, Optional, Tuple
+from typing import Any, Callable
 
 from . import _library as library
 from ._base import Base, Kind
-from ._checks import check, number_of_items
+from ._checks import Estimate, check, number_of_items
 from ._locks import alone
 from ._plain import Plain
 from ._rates import rounded_outward
-
-
-class Estimate(NamedTuple):
-    """Two bounds of a number of items. `high` is None where no number is too many."""
-
-    low: int
-    high: Optional[int]
-
-
-def approx_items_of(found: Estimate) -> float:
-    """The middle of an estimate, or infinity."""
-    return math.inf if found.high is None else (found.low + found.high) / 2
 
 
 def _estimate(low: ctypes.c_size_t, high: ctypes.c_size_t) -> Estimate:
@@ -32,7 +19,7 @@ def _estimate(low: ctypes.c_size_t, high: ctypes.c_size_t) -> Estimate:
     return Estimate(low.value, None if high.value == 2**64 - 1 else high.value)
 
 
-def _bounds(call: Callable[..., Any]) -> Tuple[Fraction, Fraction]:
+def _bounds(call: Callable[..., Any]) -> tuple[Fraction, Fraction]:
     """Two fractions of 2^63 that a call writes, which returns a reason or True."""
     low, high = ctypes.c_uint64(), ctypes.c_uint64()
     told = call(low, high)
@@ -47,7 +34,7 @@ class Words(Base[Kind]):
     __slots__ = ()
     _unit = 8
 
-    def expected_rate(self, items: int) -> Tuple[Fraction, Fraction]:
+    def expected_rate(self, items: int) -> tuple[Fraction, Fraction]:
         """Two bounds of the classical formula of the rate, once it has this many items.
 
         The formula is a little below the mean rate: see `exact_expected_false_positive_rate`. The
@@ -57,7 +44,7 @@ class Words(Base[Kind]):
         shape = self.num_words, self._num_hashes, number_of_items(items)
         return _bounds(lambda low, high: library.expected_rate(*shape, low, high))
 
-    def exact_expected_false_positive_rate(self, items: int) -> Tuple[Fraction, Fraction]:
+    def exact_expected_false_positive_rate(self, items: int) -> tuple[Fraction, Fraction]:
         """Two bounds of the mean rate of false positives once it has this many items.
 
         The rate is the part of all draws of positions, those of the items and of a look-up, by
@@ -67,12 +54,34 @@ class Words(Base[Kind]):
         shape = self.num_words, self._num_hashes, number_of_items(items)
         return _bounds(lambda low, high: library.rate_bounds(*shape, low, high))
 
-    def expected_false_positive_rate(self, items: int) -> Tuple[float, float]:
+    def expected_false_positive_rate(self, items: int) -> tuple[float, float]:
         """`exact_expected_false_positive_rate` as two floats, rounded outward."""
         return rounded_outward(self.exact_expected_false_positive_rate(items))
 
     def _mean_rate(self, items: int) -> Fraction:
         return self.exact_expected_false_positive_rate(items)[1]
+
+    @alone
+    def exact_false_positive_rate(self) -> tuple[Fraction, Fraction]:
+        """Two bounds of the rate of false positives of the filter as it is.
+
+        It is the part of all look-ups, where each position is drawn alike, that return True. The
+        bounds are proved, and are fractions of 2^63.
+        """
+        now = self._now()
+        shape = *now._words, self._num_hashes
+        return _bounds(lambda low, high: library.rate_now(*shape, low, high))
+
+    @alone
+    def estimate(self) -> Estimate:
+        """Two bounds of the number of items in it. The upper one is None where all bits are set.
+
+        It is the number of items at which as many bits are expected to be set. Nothing is claimed
+        of how far the number of items that were added may lie from it. The bounds are proved.
+        """
+        now, low, high = self._now(), ctypes.c_size_t(), ctypes.c_size_t()
+        library.estimate(*now._words, self._num_hashes, low, high)
+        return _estimate(low, high)
 
 
 class Filter(Words["Filter"], Plain["Filter"]):
@@ -86,36 +95,6 @@ class Filter(Words["Filter"], Plain["Filter"]):
 
     __slots__ = ()
     _calls = library.PLAIN
-
-    @alone
-    def exact_false_positive_rate(self) -> Tuple[Fraction, Fraction]:
-        """Two bounds of the rate of false positives of the filter as it is.
-
-        It is the part of all look-ups, where each position is drawn alike, that return True. The
-        bounds are proved, and are fractions of 2^63.
-        """
-        shape = *self._words, self._num_hashes
-        return _bounds(lambda low, high: library.rate_now(*shape, low, high))
-
-    def false_positive_rate(self) -> Tuple[float, float]:
-        """`exact_false_positive_rate` as two floats, rounded outward."""
-        return rounded_outward(self.exact_false_positive_rate())
-
-    @alone
-    def estimate(self) -> Estimate:
-        """Two bounds of the number of items in it. The upper one is None where all bits are set.
-
-        It is the number of items at which as many bits are expected to be set. Nothing is claimed
-        of how far the number of items that were added may lie from it. The bounds are proved.
-        """
-        low, high = ctypes.c_size_t(), ctypes.c_size_t()
-        library.estimate(*self._words, self._num_hashes, low, high)
-        return _estimate(low, high)
-
-    @property
-    def approx_items(self) -> float:
-        """About how many items are in it: the middle of `estimate`, or infinity."""
-        return approx_items_of(self.estimate())
 
     def _estimate_both(self, other: Filter, call: Callable[..., bool]) -> Estimate:
         """Has a call write two bounds for this filter and another one."""
@@ -140,7 +119,7 @@ class Filter(Words["Filter"], Plain["Filter"]):
         """
         return self._estimate_both(other, library.estimate_common)
 
-    def jaccard(self, other: Filter) -> Tuple[Fraction, Fraction]:
+    def jaccard(self, other: Filter) -> tuple[Fraction, Fraction]:
         """Two bounds of the part of all items of both that they have in common, from 0 to 1.
 
         It is the part of `estimated_common` in `estimated_union`. The bounds are fractions of 2^63:

@@ -1,15 +1,15 @@
-"""What the filters have that one thread uses at a time: copies, files, and sets of them."""
+"""What filters have that aren't shared: copies, files, and sets of them."""
 
 from __future__ import annotations
 
 import copy
 import ctypes
 import pickle
-from typing import Any, Dict, Iterable, List, Optional, Tuple, Type, TypeVar, Union
+from typing import Any, Iterable, TypeVar, Union
 
 from . import _library as library
 from ._base import Base, Kind, Self
-from ._checks import CUT, HEAD, SEAL, Refusal, check, check_file, number_of_hashes
+from ._checks import CUT, HEAD, SEAL, Limit, Refusal, check, check_file, number_of_hashes
 from ._files import Path, map_file, open_regular, size_of, write_file
 from ._items import Buffer, Item, plain_bytes
 from ._locks import alone, new_lock
@@ -18,12 +18,12 @@ _LINE = 64  # bytes; a line of the cache has as many
 _Plain = TypeVar("_Plain", bound="Plain[Any]")
 
 
-def _restored(cls: Type[_Plain], data: bytes) -> _Plain:
+def _restored(cls: type[_Plain], data: bytes) -> _Plain:
     """The filter that was pickled as a file."""
     return cls.from_bytes(data, max_hashes=None)
 
 
-def _restored_words(cls: Type[_Plain], num_hashes: int, key: bytes, words: Buffer) -> _Plain:
+def _restored_words(cls: type[_Plain], num_hashes: int, key: bytes, words: Buffer) -> _Plain:
     """The filter that was pickled as words, which are copied: they may be another filter's."""
     with memoryview(words).cast("B") as data:
         if not data.nbytes or data.nbytes % cls._unit:
@@ -33,7 +33,7 @@ def _restored_words(cls: Type[_Plain], num_hashes: int, key: bytes, words: Buffe
     return cls._of(view, number_of_hashes(num_hashes), key)
 
 
-def _attributes_of(made: object) -> Tuple[Dict[str, Any], Dict[str, Any]]:
+def _attributes_of(made: object) -> tuple[dict[str, Any], dict[str, Any]]:
     """What a subclass adds: its attributes, and those of them that have slots."""
     slots = {}
     for cls in type(made).__mro__:
@@ -52,7 +52,7 @@ def _state_of(made: object) -> Any:
     return (attributes or None, slots) if slots else attributes or None
 
 
-def _add_attributes(made: object, added: Tuple[Dict[str, Any], Dict[str, Any]]) -> None:
+def _add_attributes(made: object, added: tuple[dict[str, Any], dict[str, Any]]) -> None:
     attributes, slots = added
     if attributes:
         made.__dict__.update(attributes)
@@ -60,29 +60,24 @@ def _add_attributes(made: object, added: Tuple[Dict[str, Any], Dict[str, Any]]) 
         setattr(made, name, value)
 
 
-class Plain(Base[Kind]):
-    """Threads may call one filter at once, and none loses what another one adds.
+def _new_memory(num_words: int) -> memoryview:
+    """Memory of this many words, all of them clear, from where a line of the cache begins."""
+    memory = memoryview(bytearray(8 * num_words + _LINE))
+    first = -ctypes.addressof(ctypes.c_char.from_buffer(memory)) % _LINE
+    return memory[first : first + 8 * num_words]
 
-    Calls come one after the other, but `update`, `contains_many`, `|` and `&` are several, and
-    other calls may come between.
-    """
+
+def _words_in(view: memoryview) -> tuple[int, int]:
+    """The address of the words, and how many they are."""
+    return ctypes.addressof(ctypes.c_char.from_buffer(view)), view.nbytes // 8
+
+
+class Plain(Base[Kind]):
+    """A filter whose calls come one after the other, as `Filter` says."""
 
     __slots__ = ()
-    _new_lock = staticmethod(new_lock)
-
-    @classmethod
-    def _new_memory(cls, num_words: int) -> memoryview:
-        """Memory of this many words, all of them clear, from where a line of the cache begins."""
-        memory = memoryview(bytearray(8 * num_words + _LINE))
-        first = -ctypes.addressof(ctypes.c_char.from_buffer(memory)) % _LINE
-        return memory[first : first + 8 * num_words]
-
-    @staticmethod
-    def _words_in(view: memoryview) -> Tuple[int, int]:
-        """The address of the words, and how many they are."""
-        return ctypes.addressof(ctypes.c_char.from_buffer(view)), view.nbytes // 8
-
-    # Two filters
+    _new_lock, _new_memory = staticmethod(new_lock), staticmethod(_new_memory)
+    _words_in = staticmethod(_words_in)
 
     def __or__(self, other: Kind) -> Self:
         """A filter of what one of the two contains. It raises as `|=`."""
@@ -98,16 +93,12 @@ class Plain(Base[Kind]):
 
     def union(self, *others: Union[Kind, Iterable[Item]]) -> Self:
         """A filter of what this one or any of the others contains. It raises as `update`."""
-        for other in others:
-            self._check_other(other)
         united = self.copy()
         united.update(*others)
         return united
 
     def intersection(self, *others: Union[Kind, Iterable[Item]]) -> Self:
         """A filter of what this one and each of the others may contain. It raises as `update`."""
-        for other in others:
-            self._check_other(other)
         common = self.copy()
         common.intersection_update(*others)
         return common
@@ -136,11 +127,12 @@ class Plain(Base[Kind]):
 
     __hash__ = None  # type: ignore[assignment]
 
-    # Copies
-
     @alone
     def _copy_words(self, memory: memoryview) -> None:
         memory[:] = self._view
+
+    def _now(self) -> Self:
+        return self
 
     def _copy(self) -> Self:
         view = self._new_memory(self.num_words)
@@ -161,7 +153,7 @@ class Plain(Base[Kind]):
         _add_attributes(made, copy.deepcopy(_attributes_of(self), memo))
         return made
 
-    def __reduce__(self) -> Tuple[Any, ...]:
+    def __reduce__(self) -> tuple[Any, ...]:
         """Pickles the bytes of the file, which have the key, and what a subclass adds."""
         return _restored, (type(self), self.to_bytes()), _state_of(self)
 
@@ -187,11 +179,9 @@ class Plain(Base[Kind]):
         """
         return self._view.cast("Q").toreadonly()
 
-    def words(self) -> List[int]:
+    def words(self) -> list[int]:
         """The words, as a list of numbers."""
         return self._copy().view().tolist()
-
-    # Files
 
     def _file(self, sealed: bool) -> bytearray:
         """The bytes of the file, of the words as they are at one instant."""
@@ -217,9 +207,7 @@ class Plain(Base[Kind]):
         write_file(path, self._file(sealed))
 
     @classmethod
-    def from_bytes(
-        cls, data: Buffer, *, max_hashes: Optional[int] = 64, max_words: Optional[int] = None
-    ) -> Self:
+    def from_bytes(cls, data: Buffer, *, max_hashes: Limit = 64, max_words: Limit = None) -> Self:
         """The filter of a file's bytes, which are copied.
 
         Bytes that are no such file raise Refusal, which is a ValueError, with the first reason; so
@@ -236,12 +224,7 @@ class Plain(Base[Kind]):
 
     @classmethod
     def load(
-        cls,
-        path: Path,
-        *,
-        max_hashes: Optional[int] = 64,
-        max_words: Optional[int] = None,
-        mapped: bool = False,
+        cls, path: Path, *, max_hashes: Limit = 64, max_words: Limit = None, mapped: bool = False
     ) -> Self:
         """The filter of a file, which is read into memory.
 

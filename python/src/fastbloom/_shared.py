@@ -4,22 +4,18 @@ from __future__ import annotations
 
 import contextlib
 import mmap
-from typing import Any, Callable, ClassVar, Generic, NoReturn, Optional, Tuple, Type, TypeVar
+from typing import Any, Callable, ClassVar, Generic, NoReturn, TypeVar
 
 from . import _library as library
 from ._base import Base, Kind, Self
 from ._blocked import BlockedFilter, Lines
-from ._checks import EMPTY_WORDS, HEAD, TOO_MANY_WORDS, Refusal, check_file, number_of_hashes
+from ._checks import EMPTY_WORDS, HEAD, TOO_MANY_WORDS, Limit, Refusal, check_file, number_of_hashes
 from ._files import Path, map_file, open_regular, shared_memory, size_of
 from ._filter import Filter, Words
 from ._items import Buffer
 from ._plain import Plain
 
 OfWords = TypeVar("OfWords", bound=Plain[Any])  # what is taken out
-_ALIGNED = {
-    8: "words are of eight bytes, and aligned to eight",
-    64: "lines are of 64 bytes, and aligned to eight",
-}
 
 
 class Shared(Base[Kind], Generic[Kind, OfWords]):
@@ -34,16 +30,10 @@ class Shared(Base[Kind], Generic[Kind, OfWords]):
     """
 
     __slots__ = ()
-    _plain: ClassVar[Type[Plain[Any]]]
+    _plain: ClassVar[type[Plain[Any]]]
     _new_lock = staticmethod(contextlib.nullcontext)
-
-    @classmethod
-    def _new_memory(cls, num_words: int) -> memoryview:
-        return memoryview(shared_memory(8 * num_words))
-
-    @staticmethod
-    def _words_in(view: memoryview) -> Tuple[library.SharedWords]:
-        return (library.SharedWords(view),)
+    _new_memory = staticmethod(lambda num_words: memoryview(shared_memory(8 * num_words)))
+    _words_in = staticmethod(lambda view: (library.SharedWords(view),))
 
     @classmethod
     def over(cls, buffer: Buffer, num_hashes: int, key: Buffer = bytes(16)) -> Self:
@@ -57,9 +47,7 @@ class Shared(Base[Kind], Generic[Kind, OfWords]):
         return cls._over(memoryview(buffer).cast("B"), number_of_hashes(num_hashes), key)
 
     @classmethod
-    def map(
-        cls, path: Path, *, max_hashes: Optional[int] = 64, max_words: Optional[int] = None
-    ) -> Self:
+    def map(cls, path: Path, *, max_hashes: Limit = 64, max_words: Limit = None) -> Self:
         """The filter of a file, whose words all processes fill that map it.
 
         What is added goes into the file. It must have no seal, which adds would make wrong: make it
@@ -84,7 +72,9 @@ class Shared(Base[Kind], Generic[Kind, OfWords]):
                 raise Refusal(TOO_MANY_WORDS)
             made = cls._of(view, num_hashes, key)
             if view.nbytes % cls._unit or made._words[0].words % 8:
-                raise ValueError(_ALIGNED[cls._unit])
+                raise ValueError(
+                    f"words are of eight bytes, aligned to eight, in units of {cls._unit}"
+                )
         except BaseException:
             view.release()  # or the error would keep the memory in use
             raise
@@ -111,7 +101,7 @@ class Shared(Base[Kind], Generic[Kind, OfWords]):
         """A plain filter with the words as they are loaded, one after the other, as for a file."""
         return self._copied(library.shared_load)
 
-    _copy = load
+    _copy = _now = load
 
     def _copied(self, call: Callable[..., bool]) -> OfWords:
         (words,) = self._words
@@ -126,17 +116,13 @@ class Shared(Base[Kind], Generic[Kind, OfWords]):
         """A plain filter of what one of the two contains, as loaded. It raises as `|=`."""
         if not isinstance(other, self._kind):
             return NotImplemented
-        united = self.load()
-        united |= other._copy()
-        return united
+        return self.load().union(other._copy())
 
     def __and__(self, other: Kind) -> OfWords:
         """A plain filter of what both may contain, as loaded. It raises as `|=`."""
         if not isinstance(other, self._kind):
             return NotImplemented
-        common = self.load()
-        common &= other._copy()
-        return common
+        return self.load().intersection(other._copy())
 
     def __reduce__(self) -> NoReturn:
         raise TypeError(
@@ -145,10 +131,7 @@ class Shared(Base[Kind], Generic[Kind, OfWords]):
 
 
 class SharedFilter(Words["SharedFilter"], Shared["SharedFilter", Filter]):
-    """A set of texts or bytes that threads and processes fill at once, and that loses nothing.
-
-    A `Filter` is quicker where one thread adds at a time.
-    """
+    """A filter that threads and processes fill; a `Filter` is quicker where one thread adds."""
 
     __slots__ = ()
     _calls, _plain = library.SHARED, Filter
@@ -157,10 +140,9 @@ class SharedFilter(Words["SharedFilter"], Shared["SharedFilter", Filter]):
 class SharedBlockedFilter(
     Lines["SharedBlockedFilter"], Shared["SharedBlockedFilter", BlockedFilter]
 ):
-    """A blocked filter that threads and processes fill at once, and that loses nothing.
+    """A blocked filter that threads and processes fill.
 
-    Where it is larger than the processor's cache, adds of many hashes are quicker than those of a
-    `SharedFilter`. It takes no filter of another kind in.
+    Adds of many hashes are quicker where it is larger than the processor's cache.
     """
 
     __slots__ = ()
