@@ -22,6 +22,7 @@
 #include <cstdint>
 #include <cstdlib>
 #include <cstring>
+#include <memory>
 #include <optional>
 #include <string_view>
 #include <utility>
@@ -125,83 +126,6 @@ inline std::uint64_t *not_null_words(std::uint64_t *words) noexcept {
     return words == nullptr ? &no_words : words;
 }
 
-// Hashes for a filter, which gets 256 at once, and the last ones at the end of this.
-template <typename Filter> class batch {
-public:
-    explicit batch(Filter &filter) noexcept : filter_(filter) {}
-    batch(const batch &) = delete;
-    batch &operator=(const batch &) = delete;
-    ~batch() { filter_.insert_hashes(hashes_, count_); }
-
-    void add(std::uint64_t hash) noexcept {
-        hashes_[count_++] = hash;
-        if (count_ == 256) filter_.insert_hashes(hashes_, std::exchange(count_, 0));
-    }
-
-private:
-    Filter &filter_;
-    std::uint64_t hashes_[256];
-    std::size_t count_ = 0;
-};
-
-template <typename Filter, typename Items> void insert_range(Filter &filter, Items &items) {
-    batch<Filter> hashes(filter);
-    for (const auto &item : items) hashes.add(filter.hash(item));
-}
-
-inline key_bytes key_of(const fastbloom_filter &filter) noexcept {
-    key_bytes key{};
-    std::memcpy(key.data(), filter.key, key.size());
-    return key;
-}
-
-// The call that reads the head of a file, and the one that maps a file. Those of the two kinds of
-// filters have the same types.
-using head_reader = decltype(&fastbloom_head_read);
-using file_mapper = decltype(&fastbloom_map);
-
-// Reads the head of a file of this size by the call of its kind: all but the words.
-inline std::uint8_t read_head(const void *bytes, std::size_t size, head_reader reader,
-                              fastbloom_filter &read, std::uint64_t &seal) noexcept {
-    // A copy of the numbers that are there, with good ones for those that a truncated file lacks.
-    // The last two, by which the kinds differ, are read after the size.
-    head_bytes head{};
-    head[8] = head[16] = 1;
-    const std::size_t there = size < 48 ? size / 8 * 8 : 48;
-    if (there != 0) std::memcpy(head.data(), bytes, there);
-    const auto code = [&](head_reader by) {
-        return by(head.data(), &read.num_words, &read.num_hashes, read.key, &seal);
-    };
-    if (const std::uint8_t why = code(fastbloom_head_read); why != FASTBLOOM_OK) return why;
-    if (size < 64 + 8 * read.num_words) return FASTBLOOM_CUT;
-    if (size > 64 + 8 * read.num_words) return FASTBLOOM_TOO_LONG;
-    std::memcpy(head.data() + 48, static_cast<const char *>(bytes) + 48, 16);
-    return code(reader);
-}
-
-// A filter in a mapped file, or none. Its end undoes the mapping.
-class mapping {
-public:
-    mapping() noexcept = default;
-    mapping(mapping &&other) noexcept : file_(std::exchange(other.file_, fastbloom_filter{})) {}
-    mapping &operator=(mapping &&other) noexcept {
-        mapping taken(std::move(other));
-        std::swap(file_, taken.file_);
-        return *this;
-    }
-    ~mapping() { fastbloom_unmap(&file_); }
-
-    status map(const char *path, fastbloom_map_mode mode, const fastbloom_limits &limits,
-               file_mapper mapper = fastbloom_map) noexcept {
-        fastbloom_unmap(&file_);
-        return static_cast<status>(mapper(path, mode, &limits, &file_));
-    }
-    const fastbloom_filter &filter() const noexcept { return file_; }
-
-private:
-    fastbloom_filter file_{};
-};
-
 } // namespace detail
 
 // The hash of bytes that come in pieces: SipHash-1-3 of all pieces, one behind the other. A copy
@@ -235,129 +159,177 @@ private:
     fastbloom_hasher state_;
 };
 
-class shared_filter;
-class mapped_filter;
+namespace detail {
 
-// A set of byte strings with no false negatives, and with false positives at a chosen rate.
-class filter {
-public:
-    // No words: it contains nothing.
-    filter() noexcept = default;
+// The words of a filter with its shape and key: its own, those of a mapped file, the caller's, or
+// none.
+struct store {
+    std::uint64_t *words = &no_words;
+    std::size_t num_words = 0;
+    std::uint32_t num_hashes = 1;
+    key_bytes key{};
+    void *memory = nullptr; // what the end frees
+    bool is_mapped = false; // whether the end undoes a mapping
 
-    // The empty filter for this many items, where 0 counts as 1, at the rate num / den of false
-    // positives, which is below 1.
-    static result<filter> make(std::uint64_t num, std::uint64_t den, std::size_t items,
-                               const key_bytes &key = {}) noexcept {
-        if (den != 0 && num >= den) return status::rate_too_large;
-        std::size_t num_words = 0;
-        std::uint32_t num_hashes = 0;
-        const std::uint8_t code = fastbloom_plan(num, den, items, &num_words, &num_hashes);
-        if (code != FASTBLOOM_OK) return static_cast<fastbloom::status>(code);
-        return with_shape(num_words, num_hashes, key);
+    store() noexcept = default;
+    store(std::uint64_t *at, std::size_t count, std::uint32_t hashes,
+          const key_bytes &bytes) noexcept
+        : words(at), num_words(count), num_hashes(hashes == 0 ? 1 : hashes), key(bytes) {}
+    explicit store(const fastbloom_filter &read) noexcept
+        : store(read.words, read.num_words, read.num_hashes, {}) {
+        std::memcpy(key.data(), read.key, key.size());
     }
-
-    // The empty filter with this many words and hashes, where 0 hashes count as 1.
-    static result<filter> with_shape(std::size_t num_words, std::uint32_t num_hashes,
-                                     const key_bytes &key = {}) noexcept {
-        if (num_words == 0) return status::empty_words;
-        if (fastbloom_num_bits(num_words) == 0) return status::too_many_words;
-        void *words = std::calloc(num_words, sizeof(std::uint64_t));
-        if (words == nullptr) return status::memory;
-        filter made;
-        made.words_ = static_cast<std::uint64_t *>(words);
-        made.num_words_ = num_words;
-        made.num_hashes_ = num_hashes == 0 ? 1 : num_hashes;
-        made.key_ = key;
-        return made;
-    }
-
-    // The filter of a file's bytes, which are copied. A file with more than max_hashes hashes is
-    // refused, since each call takes as many steps, and so is one with more than max_words words.
-    static result<filter> from_bytes(const void *bytes, std::size_t size,
-                                     std::uint32_t max_hashes = 64,
-                                     std::size_t max_words = SIZE_MAX) noexcept {
-        fastbloom_filter read{};
-        std::uint64_t seal = 0;
-        const std::uint8_t code = detail::read_head(bytes, size, fastbloom_head_read, read, seal);
-        if (code != FASTBLOOM_OK) return static_cast<fastbloom::status>(code);
-        if (read.num_hashes > max_hashes) return status::too_many_hashes;
-        if (read.num_words > max_words) return status::too_many_words;
-        auto made = with_shape(read.num_words, read.num_hashes, detail::key_of(read));
-        if (!made) return made;
-        std::memcpy(made->words_, static_cast<const char *>(bytes) + 64, 8 * read.num_words);
-        if (seal != 0 && seal != made->seal()) return status::seal;
-        return made;
-    }
-
-    // The filter of a file, which is read whole. It is refused as by `from_bytes`, and where it
-    // can't be read: `status::input`, and errno says why.
-    static result<filter> load(const char *path, std::uint32_t max_hashes = 64,
-                               std::size_t max_words = SIZE_MAX) noexcept {
-        const fastbloom_limits limits{max_words, max_hashes};
-        fastbloom_filter read;
-        const std::uint8_t code = fastbloom_load(path, &limits, &read);
-        if (code != FASTBLOOM_OK) return static_cast<fastbloom::status>(code);
-        filter made;
-        made.words_ = read.words;
-        made.num_words_ = read.num_words;
-        made.num_hashes_ = read.num_hashes;
-        made.key_ = detail::key_of(read);
-        return made;
-    }
-
-    // Writes the filter's file, whole or not at all, with a seal or without one. Where it can't be
-    // written, the old file stays: `status::output`, and errno says why. Only where the flush of
-    // the folder failed, the new file is there.
-    [[nodiscard]] fastbloom::status save(const char *path, bool sealed = true) const noexcept {
-        fastbloom_filter written{words_, num_words_, num_hashes_, {}};
-        std::memcpy(written.key, key_.data(), key_.size());
-        return static_cast<fastbloom::status>(fastbloom_save(path, &written, sealed));
-    }
-
-    filter(filter &&other) noexcept { swap(other); }
-    filter &operator=(filter &&other) noexcept {
-        filter(std::move(other)).swap(*this);
+    store(store &&other) noexcept { swap(other); }
+    store &operator=(store &&other) noexcept {
+        store(std::move(other)).swap(*this);
         return *this;
     }
-    filter(const filter &) = delete;
-    filter &operator=(const filter &) = delete;
-    ~filter() {
-        if (words_ != &detail::no_words) std::free(words_);
+    ~store() {
+        fastbloom_filter filter = c_filter();
+        if (is_mapped) fastbloom_unmap(&filter);
+        std::free(memory);
     }
 
-    void swap(filter &other) noexcept {
-        std::swap(words_, other.words_);
-        std::swap(num_words_, other.num_words_);
-        std::swap(num_hashes_, other.num_hashes_);
-        std::swap(key_, other.key_);
+    void swap(store &other) noexcept {
+        std::swap(words, other.words);
+        std::swap(num_words, other.num_words);
+        std::swap(num_hashes, other.num_hashes);
+        std::swap(key, other.key);
+        std::swap(memory, other.memory);
+        std::swap(is_mapped, other.is_mapped);
     }
 
-    // A filter with words of its own, which are equal to these.
-    result<filter> clone() const noexcept {
-        auto made = with_shape(num_words_, num_hashes_, key_);
-        if (made) std::memcpy(made->words_, words_, 8 * num_words_);
+    fastbloom_filter c_filter() const noexcept {
+        fastbloom_filter filter{words, num_words, num_hashes, {}};
+        std::memcpy(filter.key, key.data(), key.size());
+        return filter;
+    }
+    fastbloom_shared shared() const noexcept { return {words, num_words}; }
+};
+
+// The calls of the library on one kind of filters.
+#define FASTBLOOM_KIND_(name, prefix)                                                              \
+    struct name {                                                                                  \
+        static constexpr auto plan = prefix##plan;                                                 \
+        static constexpr auto head_read = prefix##head_read;                                       \
+        static constexpr auto head_write = prefix##head_write;                                     \
+        static constexpr auto seal = prefix##seal;                                                 \
+        static constexpr auto load = prefix##load;                                                 \
+        static constexpr auto save = prefix##save;                                                 \
+        static constexpr auto map = prefix##map;                                                   \
+        static constexpr auto insert = prefix##insert;                                             \
+        static constexpr auto insert_hash = prefix##insert_hash;                                   \
+        static constexpr auto insert_hashes = prefix##insert_hashes;                               \
+        static constexpr auto tell_new = prefix##insert_hashes_tell_new;                           \
+        static constexpr auto contains = prefix##contains;                                         \
+        static constexpr auto contains_hash = prefix##contains_hash;                               \
+        static constexpr auto contains_hashes = prefix##contains_hashes;                           \
+        static constexpr auto shared_insert = prefix##shared_insert;                               \
+        static constexpr auto shared_insert_hash = prefix##shared_insert_hash;                     \
+        static constexpr auto shared_insert_hashes = prefix##shared_insert_hashes;                 \
+        static constexpr auto shared_tell_new = prefix##shared_insert_hashes_tell_new;             \
+        static constexpr auto shared_contains = prefix##shared_contains;                           \
+        static constexpr auto shared_contains_hash = prefix##shared_contains_hash;                 \
+        static constexpr auto shared_contains_hashes = prefix##shared_contains_hashes;             \
+    }
+FASTBLOOM_KIND_(whole, fastbloom_);
+FASTBLOOM_KIND_(lines, fastbloom_blocked_);
+#undef FASTBLOOM_KIND_
+
+// The calls that read words, which no thread changes meanwhile.
+template <typename Kind> struct of_plain {
+    static bool contains(const store &at, const void *bytes, std::size_t size) noexcept {
+        return Kind::contains(at.words, at.num_words, at.num_hashes, at.key.data(), not_null(bytes),
+                              size);
+    }
+    static bool contains_hash(const store &at, std::uint64_t hash) noexcept {
+        return Kind::contains_hash(at.words, at.num_words, at.num_hashes, hash);
+    }
+    static bool contains_hashes(const store &at, const std::uint64_t *hashes, std::size_t count,
+                                std::uint64_t *found, std::size_t num_found) noexcept {
+        return Kind::contains_hashes(at.words, at.num_words, at.num_hashes, hashes, count, found,
+                                     num_found);
+    }
+    static std::size_t count_ones(const store &at) noexcept {
+        return fastbloom_count_ones(at.words, at.num_words);
+    }
+};
+
+// Makes filters of words. It is a friend of each class.
+struct access {
+    template <typename Filter> static auto &of(Filter &filter) noexcept { return filter.store_; }
+
+    template <typename Filter> static result<Filter> make(store &&words) noexcept {
+        Filter made;
+        made.store_ = std::move(words);
         return made;
     }
 
-    // Inserts an item, and returns whether it was contained before, which may be a false positive.
-    // A null pointer is no text, and nor is 0, which stands for one: a number goes in by its bytes
-    // or its hash.
-    bool insert(std::string_view item) noexcept { return insert(item.data(), item.size()); }
-    bool insert(std::nullptr_t) = delete;
-    bool insert(const void *bytes, std::size_t size) noexcept {
-        return fastbloom_insert(words_, num_words_, num_hashes_, key_.data(),
-                                detail::not_null(bytes), size);
+    // The empty filter. Its words begin at a line of the cache, and take no pages yet.
+    template <typename Filter>
+    static result<Filter> zeros(std::size_t num_words, std::uint32_t num_hashes,
+                                const key_bytes &key) noexcept {
+        if (num_words == 0) return status::empty_words;
+        if (fastbloom_num_bits(num_words) == 0) return status::too_many_words;
+        std::size_t room = 8 * num_words + 64;
+        void *const memory = std::calloc(1, room);
+        if (memory == nullptr) return status::memory;
+        void *words = memory;
+        std::align(64, 8 * num_words, words, room);
+        store made(static_cast<std::uint64_t *>(words), num_words, num_hashes, key);
+        made.memory = memory;
+        return make<Filter>(std::move(made));
     }
 
-    // Whether an item is contained. False means that it was never inserted. True may be a false
-    // positive.
+    // The filter with a copy of these words.
+    template <typename Filter> static result<Filter> copy(const store &words) noexcept {
+        auto made = zeros<Filter>(words.num_words, words.num_hashes, words.key);
+        if (made) std::memcpy(made->store_.words, words.words, 8 * words.num_words);
+        return made;
+    }
+
+    // The words of a filter, which then has none.
+    template <typename Filter> static store release(Filter &&filter) noexcept {
+        return std::move(filter.store_);
+    }
+
+    // The filter over words of the caller's.
+    template <typename Filter>
+    static result<Filter> over(std::uint64_t *words, std::size_t num_words,
+                               std::uint32_t num_hashes, const key_bytes &key) noexcept {
+        if (num_words == 0) return status::empty_words;
+        if (fastbloom_num_bits(num_words) == 0) return status::too_many_words;
+        return make<Filter>(store(words, num_words, num_hashes, key));
+    }
+
+    // The filter of a mapped file.
+    template <typename Filter, typename Map>
+    static result<Filter> map(Map call, const char *path, fastbloom_map_mode mode,
+                              const fastbloom_limits &limits) noexcept {
+        fastbloom_filter read;
+        const std::uint8_t code = call(path, mode, &limits, &read);
+        if (code != FASTBLOOM_OK) return static_cast<status>(code);
+        store made(read);
+        made.is_mapped = true;
+        return make<Filter>(std::move(made));
+    }
+};
+
+// What all classes have in common: look-ups by the calls of one kind, hashes, and the shape.
+template <typename Derived, typename Calls> class reader {
+public:
+    void swap(Derived &other) noexcept { store_.swap(access::of(other)); }
+
+    // Whether an item is contained. False means that it was never inserted; for a filter that
+    // threads share, while no call clears bits, that no insert of it had returned when this call
+    // began. True may be a false positive. A null pointer is no text, and nor is 0, which stands
+    // for one: a number goes in by its bytes or its hash.
     bool contains(std::string_view item) const noexcept {
         return contains(item.data(), item.size());
     }
     bool contains(std::nullptr_t) const = delete;
     bool contains(const void *bytes, std::size_t size) const noexcept {
-        return fastbloom_contains(words_, num_words_, num_hashes_, key_.data(),
-                                  detail::not_null(bytes), size);
+        return Calls::contains(store_, bytes, size);
     }
 
     // The hash of an item: SipHash-1-3 of its bytes under the key.
@@ -366,19 +338,16 @@ public:
     }
     std::uint64_t hash(std::nullptr_t) const = delete;
     std::uint64_t hash(const void *bytes, std::size_t size) const noexcept {
-        return fastbloom_hash(key_.data(), detail::not_null(bytes), size);
+        return fastbloom_hash(store_.key.data(), not_null(bytes), size);
     }
 
-    // The same by hash.
-    bool insert_hash(std::uint64_t hash) noexcept {
-        return fastbloom_insert_hash(words_, num_words_, num_hashes_, hash);
-    }
+    // Whether the item of a hash is contained.
     bool contains_hash(std::uint64_t hash) const noexcept {
-        return fastbloom_contains_hash(words_, num_words_, num_hashes_, hash);
+        return Calls::contains_hash(store_, hash);
     }
 
     // A hasher under the key of this filter, for the hash of an item that comes in pieces.
-    fastbloom::hasher begin_hash() const noexcept { return fastbloom::hasher(key_); }
+    fastbloom::hasher begin_hash() const noexcept { return fastbloom::hasher(store_.key); }
 
     // The hashes of many items, whose bytes lie one behind the other: item i is those from
     // offsets[i] up to offsets[i + 1]. It returns false, and writes nothing, where the offsets
@@ -386,14 +355,167 @@ public:
     [[nodiscard]] bool hash_items(const void *bytes, std::size_t size,
                                   const std::uint64_t *offsets, std::size_t num_offsets,
                                   std::uint64_t *hashes, std::size_t count) const noexcept {
-        return fastbloom_hash_items(key_.data(), detail::not_null(bytes), size,
-                                    detail::not_null_words(offsets), num_offsets,
-                                    detail::not_null_words(hashes), count);
+        return fastbloom_hash_items(store_.key.data(), not_null(bytes), size,
+                                    not_null_words(offsets), num_offsets, not_null_words(hashes),
+                                    count);
+    }
+
+    // Looks many hashes up, in a bit set that the caller owns: `bit_of(found, i)` is set where
+    // hashes[i] is contained, and each bit past the hashes is cleared. Where there are more hashes
+    // than bits, or the filter has no words, it returns false and changes nothing.
+    [[nodiscard]] bool contains_hashes(const std::uint64_t *hashes, std::size_t count,
+                                       std::uint64_t *found, std::size_t num_found) const noexcept {
+        return Calls::contains_hashes(store_, not_null_words(hashes), count, not_null_words(found),
+                                      num_found);
+    }
+
+#ifdef __cpp_lib_span
+    bool contains(std::span<const std::byte> item) const noexcept {
+        return contains(item.data(), item.size());
+    }
+    bool contains(std::span<const std::uint8_t> item) const noexcept {
+        return contains(item.data(), item.size());
+    }
+    std::uint64_t hash(std::span<const std::byte> item) const noexcept {
+        return hash(item.data(), item.size());
+    }
+    std::uint64_t hash(std::span<const std::uint8_t> item) const noexcept {
+        return hash(item.data(), item.size());
+    }
+    [[nodiscard]] bool hash_items(std::span<const std::uint8_t> bytes,
+                                  std::span<const std::uint64_t> offsets,
+                                  std::span<std::uint64_t> hashes) const noexcept {
+        return hash_items(bytes.data(), bytes.size(), offsets.data(), offsets.size(), hashes.data(),
+                          hashes.size());
+    }
+    [[nodiscard]] bool contains_hashes(std::span<const std::uint64_t> hashes,
+                                       std::span<std::uint64_t> found) const noexcept {
+        return contains_hashes(hashes.data(), hashes.size(), found.data(), found.size());
+    }
+#endif
+
+    // Whether both have as many words and hashes, and the same key.
+    bool same_shape(const Derived &other) const noexcept {
+        const store &its = access::of(other);
+        return store_.num_words == its.num_words && store_.num_hashes == its.num_hashes &&
+               store_.key == its.key;
+    }
+
+    std::size_t num_words() const noexcept { return store_.num_words; }
+    std::size_t num_bits() const noexcept { return fastbloom_num_bits(store_.num_words); }
+    std::uint32_t num_hashes() const noexcept { return store_.num_hashes; }
+    const key_bytes &key() const noexcept { return store_.key; }
+
+    // How many bits are set; where threads share the words, as they are loaded.
+    std::size_t count_ones() const noexcept { return Calls::count_ones(store_); }
+
+protected:
+    friend struct access;
+
+    reader() noexcept = default;
+
+    store store_;
+};
+
+// Hashes for a filter, which gets 256 at once, and the last ones at the end of this.
+template <typename Filter> class batch {
+public:
+    explicit batch(Filter &filter) noexcept : filter_(filter) {}
+    batch(const batch &) = delete;
+    batch &operator=(const batch &) = delete;
+    ~batch() { filter_.insert_hashes(hashes_, count_); }
+
+    void add(std::uint64_t hash) noexcept {
+        hashes_[count_++] = hash;
+        if (count_ == 256) filter_.insert_hashes(hashes_, std::exchange(count_, 0));
+    }
+
+private:
+    Filter &filter_;
+    std::uint64_t hashes_[256];
+    std::size_t count_ = 0;
+};
+
+template <typename Filter, typename Items> void insert_range(Filter &filter, Items &items) {
+    batch<Filter> hashes(filter);
+    for (const auto &item : items) hashes.add(filter.hash(item));
+}
+
+// A filter that owns its words.
+template <typename Derived, typename Kind> class plain : public reader<Derived, of_plain<Kind>> {
+public:
+    // The empty filter for this many items, where 0 counts as 1, at the rate num / den of false
+    // positives, which is below 1.
+    static result<Derived> make(std::uint64_t num, std::uint64_t den, std::size_t items,
+                                const key_bytes &key = {}) noexcept {
+        if (den != 0 && num >= den) return status::rate_too_large;
+        std::size_t num_words = 0;
+        std::uint32_t num_hashes = 0;
+        const std::uint8_t code = Kind::plan(num, den, items, &num_words, &num_hashes);
+        if (code != FASTBLOOM_OK) return static_cast<status>(code);
+        return access::zeros<Derived>(num_words, num_hashes, key);
+    }
+
+    // The filter of a file's bytes, which are copied. A file with more than max_hashes hashes is
+    // refused, since each call takes as many steps, and so is one with more than max_words words,
+    // and that of a filter of the other kind: `status::blocked`, `status::not_blocked`.
+    static result<Derived> from_bytes(const void *bytes, std::size_t size,
+                                      std::uint32_t max_hashes = 64,
+                                      std::size_t max_words = SIZE_MAX) noexcept {
+        fastbloom_filter read{};
+        std::uint64_t seal = 0;
+        const std::uint8_t code = read_head(bytes, size, read, seal);
+        if (code != FASTBLOOM_OK) return static_cast<status>(code);
+        if (read.num_hashes > max_hashes) return status::too_many_hashes;
+        if (read.num_words > max_words) return status::too_many_words;
+        const store head(read);
+        auto made = access::zeros<Derived>(head.num_words, head.num_hashes, head.key);
+        if (!made) return made;
+        std::memcpy(made->store_.words, static_cast<const char *>(bytes) + 64, 8 * read.num_words);
+        if (seal != 0 && seal != made->seal()) return status::seal;
+        return made;
+    }
+
+    // The filter of a file, which is read whole. It is refused as by `from_bytes`, and where it
+    // can't be read: `status::input`, and errno says why.
+    static result<Derived> load(const char *path, std::uint32_t max_hashes = 64,
+                                std::size_t max_words = SIZE_MAX) noexcept {
+        const fastbloom_limits limits{max_words, max_hashes};
+        fastbloom_filter read;
+        const std::uint8_t code = Kind::load(path, &limits, &read);
+        if (code != FASTBLOOM_OK) return static_cast<status>(code);
+        store made(read);
+        made.memory = read.words;
+        return access::make<Derived>(std::move(made));
+    }
+
+    // Writes the filter's file, whole or not at all, with a seal or without one. Where it can't be
+    // written, the old file stays: `status::output`, and errno says why. Only where the flush of
+    // the folder failed, the new file is there.
+    [[nodiscard]] fastbloom::status save(const char *path, bool sealed = true) const noexcept {
+        const fastbloom_filter written = store_.c_filter();
+        return static_cast<fastbloom::status>(Kind::save(path, &written, sealed));
+    }
+
+    // A filter with words of its own, which are equal to these.
+    result<Derived> clone() const noexcept { return access::copy<Derived>(store_); }
+
+    // Inserts an item, and returns whether it was contained before, which may be a false positive.
+    // An item is what `contains` takes.
+    bool insert(std::string_view item) noexcept { return insert(item.data(), item.size()); }
+    bool insert(std::nullptr_t) = delete;
+    bool insert(const void *bytes, std::size_t size) noexcept {
+        return Kind::insert(store_.words, store_.num_words, store_.num_hashes, store_.key.data(),
+                            not_null(bytes), size);
+    }
+    bool insert_hash(std::uint64_t hash) noexcept {
+        return Kind::insert_hash(store_.words, store_.num_words, store_.num_hashes, hash);
     }
 
     // Inserts many hashes, which costs less than a call for each.
     void insert_hashes(const std::uint64_t *hashes, std::size_t count) noexcept {
-        if (count != 0) fastbloom_insert_hashes(words_, num_words_, num_hashes_, hashes, count);
+        if (count != 0)
+            Kind::insert_hashes(store_.words, store_.num_words, store_.num_hashes, hashes, count);
     }
 
     // Inserts each item of a range: a container or a view of what `insert` takes. Where the range
@@ -402,123 +524,160 @@ public:
         detail::insert_range(*this, items);
     }
 
-    // Calls on many hashes that tell of each, in a bit set that the caller owns: `bit_of(found, i)`
-    // is that of hashes[i]. Where there are more hashes than bits, or the filter has no words, they
-    // return false and change nothing. Otherwise each bit past the hashes is cleared.
-    //
-    // The first looks them up: a bit is set where its hash is contained. The second inserts them,
-    // one after the other: a bit is set where its hash was not contained just before its insert.
-    [[nodiscard]] bool contains_hashes(const std::uint64_t *hashes, std::size_t count,
-                                       std::uint64_t *found, std::size_t num_found) const noexcept {
-        return fastbloom_contains_hashes(words_, num_words_, num_hashes_,
-                                         detail::not_null_words(hashes), count,
-                                         detail::not_null_words(found), num_found);
-    }
+    // Inserts many hashes, one after the other, and tells in a bit set as of `contains_hashes`: a
+    // bit is set where its hash was not contained just before its insert.
     [[nodiscard]] bool insert_hashes_tell_new(const std::uint64_t *hashes, std::size_t count,
                                               std::uint64_t *fresh,
                                               std::size_t num_fresh) noexcept {
-        return fastbloom_insert_hashes_tell_new(words_, num_words_, num_hashes_,
-                                                detail::not_null_words(hashes), count,
-                                                detail::not_null_words(fresh), num_fresh);
+        return Kind::tell_new(store_.words, store_.num_words, store_.num_hashes,
+                              not_null_words(hashes), count, not_null_words(fresh), num_fresh);
     }
 
 #ifdef __cpp_lib_span
     bool insert(std::span<const std::byte> item) noexcept {
         return insert(item.data(), item.size());
     }
-    bool contains(std::span<const std::byte> item) const noexcept {
-        return contains(item.data(), item.size());
-    }
-    std::uint64_t hash(std::span<const std::byte> item) const noexcept {
-        return hash(item.data(), item.size());
-    }
     bool insert(std::span<const std::uint8_t> item) noexcept {
         return insert(item.data(), item.size());
     }
-    bool contains(std::span<const std::uint8_t> item) const noexcept {
-        return contains(item.data(), item.size());
-    }
-    std::uint64_t hash(std::span<const std::uint8_t> item) const noexcept {
-        return hash(item.data(), item.size());
-    }
-    [[nodiscard]] bool hash_items(std::span<const std::uint8_t> bytes,
-                                  std::span<const std::uint64_t> offsets,
-                                  std::span<std::uint64_t> hashes) const noexcept {
-        return hash_items(bytes.data(), bytes.size(), offsets.data(), offsets.size(),
-                          hashes.data(), hashes.size());
-    }
     void insert_hashes(std::span<const std::uint64_t> hashes) noexcept {
         insert_hashes(hashes.data(), hashes.size());
-    }
-    [[nodiscard]] bool contains_hashes(std::span<const std::uint64_t> hashes,
-                                       std::span<std::uint64_t> found) const noexcept {
-        return contains_hashes(hashes.data(), hashes.size(), found.data(), found.size());
     }
     [[nodiscard]] bool insert_hashes_tell_new(std::span<const std::uint64_t> hashes,
                                               std::span<std::uint64_t> fresh) noexcept {
         return insert_hashes_tell_new(hashes.data(), hashes.size(), fresh.data(), fresh.size());
     }
-    std::span<const std::uint64_t> words() const noexcept { return {words_, num_words_}; }
+    std::span<const std::uint64_t> words() const noexcept {
+        return {store_.words, store_.num_words};
+    }
 #endif
 
     // Removes every item.
-    void clear() noexcept { fastbloom_clear(words_, num_words_); }
-
-    // Whether both have as many words and hashes, and the same key.
-    bool same_shape(const filter &other) const noexcept {
-        return num_words_ == other.num_words_ && num_hashes_ == other.num_hashes_ &&
-               key_ == other.key_;
-    }
+    void clear() noexcept { fastbloom_clear(store_.words, store_.num_words); }
 
     // Takes the items of the other in, or keeps only what may be in both. They return false, and
     // change nothing, where the shapes differ or there are no words.
-    [[nodiscard]] bool unite(const filter &other) noexcept {
-        if (!same_shape(other) || num_words_ == 0) return false;
-        // The library asks for words that lie apart.
-        return this == &other ||
-               fastbloom_union(words_, num_words_, other.words_, other.num_words_);
+    [[nodiscard]] bool unite(const Derived &other) noexcept {
+        return fits(other) && (this == &other || // (the library asks for words that lie apart)
+                               fastbloom_union(store_.words, store_.num_words, other.store_.words,
+                                               other.store_.num_words));
     }
-    [[nodiscard]] bool intersect(const filter &other) noexcept {
-        if (!same_shape(other) || num_words_ == 0) return false;
-        return this == &other ||
-               fastbloom_intersect(words_, num_words_, other.words_, other.num_words_);
+    [[nodiscard]] bool intersect(const Derived &other) noexcept {
+        return fits(other) &&
+               (this == &other || fastbloom_intersect(store_.words, store_.num_words,
+                                                      other.store_.words, other.store_.num_words));
     }
 
     // The same as operators, which return the same.
-    [[nodiscard]] bool operator|=(const filter &other) noexcept { return unite(other); }
-    [[nodiscard]] bool operator&=(const filter &other) noexcept { return intersect(other); }
+    [[nodiscard]] bool operator|=(const Derived &other) noexcept { return unite(other); }
+    [[nodiscard]] bool operator&=(const Derived &other) noexcept { return intersect(other); }
 
     // Whether shapes and words are equal.
-    friend bool operator==(const filter &one, const filter &other) noexcept {
+    friend bool operator==(const Derived &one, const Derived &other) noexcept {
+        const store &left = access::of(one), &right = access::of(other);
         return one.same_shape(other) &&
-               (one.num_words_ == 0 ||
-                fastbloom_equal(one.words_, one.num_words_, other.words_, other.num_words_));
+               (left.num_words == 0 ||
+                fastbloom_equal(left.words, left.num_words, right.words, right.num_words));
     }
-    friend bool operator!=(const filter &one, const filter &other) noexcept {
+    friend bool operator!=(const Derived &one, const Derived &other) noexcept {
         return !(one == other);
     }
 
-    std::size_t num_words() const noexcept { return num_words_; }
-    std::size_t num_bits() const noexcept { return fastbloom_num_bits(num_words_); }
-    std::uint32_t num_hashes() const noexcept { return num_hashes_; }
-    const key_bytes &key() const noexcept { return key_; }
+    // The words. In a file they are behind the head, as they are in memory.
+    const std::uint64_t *data() const noexcept { return store_.words; }
 
-    // How many bits are set.
-    std::size_t count_ones() const noexcept { return fastbloom_count_ones(words_, num_words_); }
+    // The head of this filter's file: with a seal, by which a reader finds out whether a byte was
+    // changed, or without. A filter with no words has no file.
+    result<head_bytes> head(bool sealed = true) const noexcept {
+        head_bytes bytes{};
+        const std::uint8_t code =
+            Kind::head_write(store_.num_words, store_.num_hashes, store_.key.data(),
+                             sealed ? seal() : 0, bytes.data());
+        if (code != FASTBLOOM_OK) return static_cast<status>(code);
+        return bytes;
+    }
+
+protected:
+    friend struct access;
+    using reader<Derived, of_plain<Kind>>::store_;
+
+    bool fits(const Derived &other) const noexcept {
+        return this->same_shape(other) && store_.num_words != 0;
+    }
+
+private:
+    std::uint64_t seal() const noexcept {
+        return Kind::seal(store_.words, store_.num_words, store_.num_hashes, store_.key.data());
+    }
+
+    // Reads the head of a file of this size: all but the words.
+    static std::uint8_t read_head(const void *bytes, std::size_t size, fastbloom_filter &read,
+                                  std::uint64_t &seal) noexcept {
+        // A copy of the numbers that are there, with good ones for those that a truncated file
+        // lacks. The last two, by which the kinds differ, are read after the size.
+        head_bytes head{};
+        head[8] = head[16] = 1;
+        const std::size_t there = size < 48 ? size / 8 * 8 : 48;
+        if (there != 0) std::memcpy(head.data(), bytes, there);
+        const auto code = [&](auto by) {
+            return by(head.data(), &read.num_words, &read.num_hashes, read.key, &seal);
+        };
+        if (const std::uint8_t why = code(fastbloom_head_read); why != FASTBLOOM_OK) return why;
+        if (size < 64 + 8 * read.num_words) return FASTBLOOM_CUT;
+        if (size > 64 + 8 * read.num_words) return FASTBLOOM_TOO_LONG;
+        std::memcpy(head.data() + 48, static_cast<const char *>(bytes) + 48, 16);
+        return code(Kind::head_read);
+    }
+};
+
+// A filter in a mapped file.
+template <typename Derived, typename Plain, typename Kind>
+class mapped : public reader<Derived, of_plain<Kind>> {
+public:
+    // Maps a file, which is refused as by `load` of a plain filter. Only a sealed one is read whole
+    // for it.
+    static result<Derived> map(const char *path, std::uint32_t max_hashes = 64,
+                               std::size_t max_words = SIZE_MAX) noexcept {
+        return access::map<Derived>(Kind::map, path, FASTBLOOM_MAP_READ, {max_words, max_hashes});
+    }
+
+    // A filter with words of its own, which are equal to these.
+    result<Plain> clone() const noexcept { return access::copy<Plain>(this->store_); }
+
+    const std::uint64_t *data() const noexcept { return this->store_.words; }
+#ifdef __cpp_lib_span
+    std::span<const std::uint64_t> words() const noexcept { return {data(), this->num_words()}; }
+#endif
+};
+
+} // namespace detail
+
+// A set of byte strings with no false negatives, and with false positives at a chosen rate. What it
+// has in common with a blocked filter is in detail::plain.
+class filter : public detail::plain<filter, detail::whole> {
+public:
+    // No words: it contains nothing.
+    filter() noexcept {}
+
+    // The empty filter with this many words and hashes, where 0 hashes count as 1.
+    static result<filter> with_shape(std::size_t num_words, std::uint32_t num_hashes,
+                                     const key_bytes &key = {}) noexcept {
+        return detail::access::zeros<filter>(num_words, num_hashes, key);
+    }
 
     // Two bounds of the rate of false positives to expect once this many items are in the filter:
     // by the classical formula, which is a little below the mean rate, and of that mean rate. A
     // filter with no words has none.
     result<rate_bounds> expected_rate(std::size_t items) const noexcept {
         rate_bounds bounds{};
-        const std::uint8_t code = fastbloom_expected_rate(num_words_, num_hashes_, items,
-                                                          &bounds.low, &bounds.high);
+        const std::uint8_t code = fastbloom_expected_rate(store_.num_words, store_.num_hashes,
+                                                          items, &bounds.low, &bounds.high);
         if (code != FASTBLOOM_OK) return static_cast<fastbloom::status>(code);
         return bounds;
     }
     result<rate_bounds> false_positive_bounds(std::size_t items) const noexcept {
         rate_bounds bounds{};
-        const std::uint8_t code = fastbloom_rate_bounds(num_words_, num_hashes_, items,
+        const std::uint8_t code = fastbloom_rate_bounds(store_.num_words, store_.num_hashes, items,
                                                         &bounds.low, &bounds.high);
         if (code != FASTBLOOM_OK) return static_cast<fastbloom::status>(code);
         return bounds;
@@ -528,7 +687,8 @@ public:
     // none.
     std::optional<rate_bounds> false_positive_rate() const noexcept {
         rate_bounds bounds{};
-        if (!fastbloom_rate_now(words_, num_words_, num_hashes_, &bounds.low, &bounds.high))
+        if (!fastbloom_rate_now(store_.words, store_.num_words, store_.num_hashes, &bounds.low,
+                                &bounds.high))
             return std::nullopt;
         return bounds;
     }
@@ -539,21 +699,23 @@ public:
     // where the shapes differ or there are no words.
     std::optional<item_bounds> estimated_items() const noexcept {
         return items([this](std::size_t &low, std::size_t &high) {
-            return fastbloom_estimate(words_, num_words_, num_hashes_, &low, &high);
+            return fastbloom_estimate(store_.words, store_.num_words, store_.num_hashes, &low,
+                                      &high);
         });
     }
     std::optional<item_bounds> estimated_union(const filter &other) const noexcept {
         if (!same_shape(other)) return std::nullopt;
         return items([&](std::size_t &low, std::size_t &high) {
-            return fastbloom_estimate_union(words_, num_words_, other.words_, other.num_words_,
-                                            num_hashes_, &low, &high);
+            return fastbloom_estimate_union(store_.words, store_.num_words, other.store_.words,
+                                            other.store_.num_words, store_.num_hashes, &low, &high);
         });
     }
     std::optional<item_bounds> estimated_common(const filter &other) const noexcept {
         if (!same_shape(other)) return std::nullopt;
         return items([&](std::size_t &low, std::size_t &high) {
-            return fastbloom_estimate_common(words_, num_words_, other.words_, other.num_words_,
-                                             num_hashes_, &low, &high);
+            return fastbloom_estimate_common(store_.words, store_.num_words, other.store_.words,
+                                             other.store_.num_words, store_.num_hashes, &low,
+                                             &high);
         });
     }
 
@@ -561,31 +723,14 @@ public:
     // 2^63. There are none where the shapes differ or there are no words.
     std::optional<rate_bounds> jaccard(const filter &other) const noexcept {
         rate_bounds bounds{};
-        if (!same_shape(other) ||
-            !fastbloom_jaccard(words_, num_words_, other.words_, other.num_words_, num_hashes_,
-                               &bounds.low, &bounds.high))
+        if (!same_shape(other) || !fastbloom_jaccard(store_.words, store_.num_words,
+                                                     other.store_.words, other.store_.num_words,
+                                                     store_.num_hashes, &bounds.low, &bounds.high))
             return std::nullopt;
         return bounds;
     }
 
-    // The words. In a file they are behind the head, as they are in memory.
-    const std::uint64_t *data() const noexcept { return words_; }
-
-    // The head of this filter's file: with a seal, by which a reader finds out whether a byte was
-    // changed, or without. A filter with no words has no file.
-    result<head_bytes> head(bool sealed = true) const noexcept {
-        head_bytes bytes{};
-        const std::uint8_t code = fastbloom_head_write(num_words_, num_hashes_, key_.data(),
-                                                       sealed ? seal() : 0, bytes.data());
-        if (code != FASTBLOOM_OK) return static_cast<fastbloom::status>(code);
-        return bytes;
-    }
-
 private:
-    // They take words over, or fill them.
-    friend class shared_filter;
-    friend class mapped_filter;
-
     // The bounds that a call of the library hands out, unless it returns false.
     template <typename Call> static std::optional<item_bounds> items(Call call) noexcept {
         std::size_t low = 0, high = 0;
@@ -593,82 +738,14 @@ private:
         if (high == SIZE_MAX) return item_bounds{low, std::nullopt};
         return item_bounds{low, high};
     }
-
-    std::uint64_t seal() const noexcept {
-        return fastbloom_seal(words_, num_words_, num_hashes_, key_.data());
-    }
-
-    std::uint64_t *words_ = &detail::no_words;
-    std::size_t num_words_ = 0;
-    std::uint32_t num_hashes_ = 1;
-    key_bytes key_{};
 };
 
 // A filter in a mapped file, which is only read: processes that map one file share its pages. A
 // mapping moves with its owner. While it lasts nobody writes into the file.
-class mapped_filter {
+class mapped_filter : public detail::mapped<mapped_filter, filter, detail::whole> {
 public:
     // No words: it contains nothing.
-    mapped_filter() noexcept = default;
-
-    // Maps a file, which is refused as by `filter::load`. Only a sealed one is read whole for it.
-    static result<mapped_filter> map(const char *path, std::uint32_t max_hashes = 64,
-                                     std::size_t max_words = SIZE_MAX) noexcept {
-        mapped_filter made;
-        const auto why = made.file_.map(path, FASTBLOOM_MAP_READ, {max_words, max_hashes});
-        if (why != status::ok) return why;
-        return made;
-    }
-
-    // As those of a filter.
-    bool contains(std::string_view item) const noexcept {
-        return contains(item.data(), item.size());
-    }
-    bool contains(std::nullptr_t) const = delete;
-    bool contains(const void *bytes, std::size_t size) const noexcept {
-        return fastbloom_contains(address(), num_words(), num_hashes(), file_.filter().key,
-                                  detail::not_null(bytes), size);
-    }
-    bool contains_hash(std::uint64_t hash) const noexcept {
-        return fastbloom_contains_hash(address(), num_words(), num_hashes(), hash);
-    }
-    [[nodiscard]] bool contains_hashes(const std::uint64_t *hashes, std::size_t count,
-                                       std::uint64_t *found, std::size_t num_found) const noexcept {
-        return fastbloom_contains_hashes(address(), num_words(), num_hashes(),
-                                         detail::not_null_words(hashes), count,
-                                         detail::not_null_words(found), num_found);
-    }
-#ifdef __cpp_lib_span
-    bool contains(std::span<const std::byte> item) const noexcept {
-        return contains(item.data(), item.size());
-    }
-    bool contains(std::span<const std::uint8_t> item) const noexcept {
-        return contains(item.data(), item.size());
-    }
-    [[nodiscard]] bool contains_hashes(std::span<const std::uint64_t> hashes,
-                                       std::span<std::uint64_t> found) const noexcept {
-        return contains_hashes(hashes.data(), hashes.size(), found.data(), found.size());
-    }
-    std::span<const std::uint64_t> words() const noexcept { return {data(), num_words()}; }
-#endif
-
-    // A filter with words of its own, which are equal to these.
-    result<filter> clone() const noexcept {
-        auto made = filter::with_shape(num_words(), num_hashes(), key());
-        if (made) std::memcpy(made->words_, address(), 8 * num_words());
-        return made;
-    }
-
-    std::size_t num_words() const noexcept { return file_.filter().num_words; }
-    std::size_t num_bits() const noexcept { return fastbloom_num_bits(num_words()); }
-    std::uint32_t num_hashes() const noexcept { return file_.filter().num_hashes; }
-    key_bytes key() const noexcept { return detail::key_of(file_.filter()); }
-    const std::uint64_t *data() const noexcept { return file_.filter().words; }
-
-private:
-    const std::uint64_t *address() const noexcept { return detail::not_null_words(data()); }
-
-    detail::mapping file_;
+    mapped_filter() noexcept {}
 };
 
 // The last items of a stream without end, in memory that stays the same. An item is contained at
