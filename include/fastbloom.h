@@ -88,9 +88,9 @@ enum fastbloom_status {
 
 /* Status codes of calls in C and C++ alone. */
 enum fastbloom_file_status {
-    FASTBLOOM_SEALED = 252,          /* a file that is to be shared has a seal */
-    FASTBLOOM_OUTPUT = 253,          /* a write failed */
-    FASTBLOOM_RATE_TOO_LARGE = 254,  /* a rate of 1 or above, in C++ */
+    FASTBLOOM_SEALED = 252,         /* a file that is to be shared has a seal */
+    FASTBLOOM_OUTPUT = 253,         /* a write failed */
+    FASTBLOOM_RATE_TOO_LARGE = 254, /* a rate of 1 or above, in C++ */
     FASTBLOOM_TOO_MANY_HASHES = 255 /* more hashes than the caller allows */
 };
 
@@ -169,16 +169,15 @@ bool fastbloom_contains_hash(const uint64_t *words, size_t num_words, uint32_t n
  * its insert. So a hash that comes twice is new once at most. */
 FASTBLOOM_MUST_USE bool fastbloom_contains_hashes(const uint64_t *words, size_t num_words,
                                                   uint32_t num_hashes, const uint64_t *hashes,
-                                                  size_t count, uint64_t *found,
-                                                  size_t num_found);
+                                                  size_t count, uint64_t *found, size_t num_found);
 FASTBLOOM_MUST_USE bool fastbloom_insert_hashes_tell_new(uint64_t *words, size_t num_words,
                                                          uint32_t num_hashes,
                                                          const uint64_t *hashes, size_t count,
                                                          uint64_t *fresh, size_t num_fresh);
 
 /* fastbloom_insert_hash and fastbloom_contains_hash at the hash of the bytes. */
-bool fastbloom_insert(uint64_t *words, size_t num_words, uint32_t num_hashes,
-                      const uint8_t key[16], const uint8_t *bytes, size_t len);
+bool fastbloom_insert(uint64_t *words, size_t num_words, uint32_t num_hashes, const uint8_t key[16],
+                      const uint8_t *bytes, size_t len);
 bool fastbloom_contains(const uint64_t *words, size_t num_words, uint32_t num_hashes,
                         const uint8_t key[16], const uint8_t *bytes, size_t len);
 
@@ -402,12 +401,10 @@ FASTBLOOM_MUST_USE bool fastbloom_blocked_shared_contains_hashes(fastbloom_share
                                                                  const uint64_t *hashes,
                                                                  size_t count, uint64_t *found,
                                                                  size_t num_found);
-FASTBLOOM_MUST_USE bool fastbloom_blocked_shared_insert_hashes_tell_new(fastbloom_shared words,
-                                                                        uint32_t num_hashes,
-                                                                        const uint64_t *hashes,
-                                                                        size_t count,
-                                                                        uint64_t *fresh,
-                                                                        size_t num_fresh);
+FASTBLOOM_MUST_USE bool
+fastbloom_blocked_shared_insert_hashes_tell_new(fastbloom_shared words, uint32_t num_hashes,
+                                                const uint64_t *hashes, size_t count,
+                                                uint64_t *fresh, size_t num_fresh);
 
 /* A file is a head of 64 bytes and then the words. All numbers in it are little-endian. */
 
@@ -575,24 +572,19 @@ FASTBLOOM_INLINE bool fastbloom_contains_hash_(const uint64_t *words, size_t num
                                    hash);
 }
 
-FASTBLOOM_MUST_USE FASTBLOOM_INLINE bool fastbloom_contains_hashes_(const uint64_t *words,
-                                                                    size_t num_words,
-                                                                    uint32_t num_hashes,
-                                                                    const uint64_t *hashes,
-                                                                    size_t count, uint64_t *found,
-                                                                    size_t num_found) {
+FASTBLOOM_MUST_USE FASTBLOOM_INLINE bool
+fastbloom_contains_hashes_(const uint64_t *words, size_t num_words, uint32_t num_hashes,
+                           const uint64_t *hashes, size_t count, uint64_t *found,
+                           size_t num_found) {
     return fastbloom_contains_hashes(fastbloom_read_words_(words, num_words), num_words, num_hashes,
                                      fastbloom_read_words_(hashes, count), count,
                                      fastbloom_words_(found, num_found), num_found);
 }
 
-FASTBLOOM_MUST_USE FASTBLOOM_INLINE bool fastbloom_insert_hashes_tell_new_(uint64_t *words,
-                                                                           size_t num_words,
-                                                                           uint32_t num_hashes,
-                                                                           const uint64_t *hashes,
-                                                                           size_t count,
-                                                                           uint64_t *fresh,
-                                                                           size_t num_fresh) {
+FASTBLOOM_MUST_USE FASTBLOOM_INLINE bool
+fastbloom_insert_hashes_tell_new_(uint64_t *words, size_t num_words, uint32_t num_hashes,
+                                  const uint64_t *hashes, size_t count, uint64_t *fresh,
+                                  size_t num_fresh) {
     return fastbloom_insert_hashes_tell_new(fastbloom_words_(words, num_words), num_words,
                                             num_hashes, fastbloom_read_words_(hashes, count), count,
                                             fastbloom_words_(fresh, num_fresh), num_fresh);
@@ -621,9 +613,8 @@ FASTBLOOM_MUST_USE FASTBLOOM_INLINE bool fastbloom_union_(uint64_t *words, size_
                            fastbloom_read_words_(other, num_other), num_other);
 }
 
-FASTBLOOM_MUST_USE FASTBLOOM_INLINE bool fastbloom_intersect_(uint64_t *words, size_t num_words,
-                                                              const uint64_t *other,
-                                                              size_t num_other) {
+FASTBLOOM_MUST_USE FASTBLOOM_INLINE bool
+fastbloom_intersect_(uint64_t *words, size_t num_words, const uint64_t *other, size_t num_other) {
     return fastbloom_intersect(fastbloom_words_(words, num_words), num_words,
                                fastbloom_read_words_(other, num_other), num_other);
 }
@@ -645,23 +636,17 @@ FASTBLOOM_MUST_USE FASTBLOOM_INLINE bool fastbloom_estimate_(const uint64_t *wor
                               high);
 }
 
-FASTBLOOM_MUST_USE FASTBLOOM_INLINE bool fastbloom_estimate_union_(const uint64_t *words,
-                                                                   size_t num_words,
-                                                                   const uint64_t *other,
-                                                                   size_t num_other,
-                                                                   uint32_t num_hashes, size_t *low,
-                                                                   size_t *high) {
+FASTBLOOM_MUST_USE FASTBLOOM_INLINE bool
+fastbloom_estimate_union_(const uint64_t *words, size_t num_words, const uint64_t *other,
+                          size_t num_other, uint32_t num_hashes, size_t *low, size_t *high) {
     return fastbloom_estimate_union(fastbloom_read_words_(words, num_words), num_words,
                                     fastbloom_read_words_(other, num_other), num_other, num_hashes,
                                     low, high);
 }
 
-FASTBLOOM_MUST_USE FASTBLOOM_INLINE bool fastbloom_estimate_common_(const uint64_t *words,
-                                                                    size_t num_words,
-                                                                    const uint64_t *other,
-                                                                    size_t num_other,
-                                                                    uint32_t num_hashes,
-                                                                    size_t *low, size_t *high) {
+FASTBLOOM_MUST_USE FASTBLOOM_INLINE bool
+fastbloom_estimate_common_(const uint64_t *words, size_t num_words, const uint64_t *other,
+                           size_t num_other, uint32_t num_hashes, size_t *low, size_t *high) {
     return fastbloom_estimate_common(fastbloom_read_words_(words, num_words), num_words,
                                      fastbloom_read_words_(other, num_other), num_other, num_hashes,
                                      low, high);
@@ -764,13 +749,13 @@ FASTBLOOM_MUST_USE FASTBLOOM_INLINE bool
 fastbloom_shared_insert_hashes_tell_new_(fastbloom_shared words, uint32_t num_hashes,
                                          const uint64_t *hashes, size_t count, uint64_t *fresh,
                                          size_t num_fresh) {
-    return fastbloom_shared_insert_hashes_tell_new(
-        words, num_hashes, fastbloom_read_words_(hashes, count), count,
-        fastbloom_words_(fresh, num_fresh), num_fresh);
+    return fastbloom_shared_insert_hashes_tell_new(words, num_hashes,
+                                                   fastbloom_read_words_(hashes, count), count,
+                                                   fastbloom_words_(fresh, num_fresh), num_fresh);
 }
 
-FASTBLOOM_MUST_USE FASTBLOOM_INLINE bool
-fastbloom_shared_take_(fastbloom_shared words, uint64_t *taken, size_t num_taken) {
+FASTBLOOM_MUST_USE FASTBLOOM_INLINE bool fastbloom_shared_take_(fastbloom_shared words,
+                                                                uint64_t *taken, size_t num_taken) {
     return fastbloom_shared_take(words, fastbloom_words_(taken, num_taken), num_taken);
 }
 
@@ -787,8 +772,7 @@ FASTBLOOM_INLINE bool fastbloom_blocked_shared_insert_(fastbloom_shared words, u
 }
 
 FASTBLOOM_INLINE bool fastbloom_blocked_shared_contains_(fastbloom_shared words,
-                                                         uint32_t num_hashes,
-                                                         const uint8_t key[16],
+                                                         uint32_t num_hashes, const uint8_t key[16],
                                                          const uint8_t *bytes, size_t len) {
     return fastbloom_blocked_shared_contains(words, num_hashes, key, fastbloom_bytes_(bytes, len),
                                              len);
@@ -883,7 +867,8 @@ FASTBLOOM_INLINE void fastbloom_hasher_update_(fastbloom_hasher *hasher, const u
 #define fastbloom_blocked_shared_contains fastbloom_blocked_shared_contains_
 #define fastbloom_blocked_shared_insert_hashes fastbloom_blocked_shared_insert_hashes_
 #define fastbloom_blocked_shared_contains_hashes fastbloom_blocked_shared_contains_hashes_
-#define fastbloom_blocked_shared_insert_hashes_tell_new fastbloom_blocked_shared_insert_hashes_tell_new_
+#define fastbloom_blocked_shared_insert_hashes_tell_new                                            \
+    fastbloom_blocked_shared_insert_hashes_tell_new_
 #define fastbloom_seal fastbloom_seal_
 #define fastbloom_blocked_seal fastbloom_blocked_seal_
 #define fastbloom_hash fastbloom_hash_

@@ -71,9 +71,9 @@ public:
     explicit operator bool() const noexcept { return value_.has_value(); }
     fastbloom::status status() const noexcept { return status_; }
 
-    T &operator*() & noexcept { return *value_; }
-    const T &operator*() const & noexcept { return *value_; }
-    T &&operator*() && noexcept { return *std::move(value_); }
+    T &operator*() &noexcept { return *value_; }
+    const T &operator*() const &noexcept { return *value_; }
+    T &&operator*() &&noexcept { return *std::move(value_); }
     T *operator->() noexcept { return &*value_; }
     const T *operator->() const noexcept { return &*value_; }
 
@@ -352,9 +352,9 @@ public:
     // The hashes of many items, whose bytes lie one behind the other: item i is those from
     // offsets[i] up to offsets[i + 1]. It returns false, and writes nothing, where the offsets
     // don't tell as many items within the bytes.
-    [[nodiscard]] bool hash_items(const void *bytes, std::size_t size,
-                                  const std::uint64_t *offsets, std::size_t num_offsets,
-                                  std::uint64_t *hashes, std::size_t count) const noexcept {
+    [[nodiscard]] bool hash_items(const void *bytes, std::size_t size, const std::uint64_t *offsets,
+                                  std::size_t num_offsets, std::uint64_t *hashes,
+                                  std::size_t count) const noexcept {
         return fastbloom_hash_items(store_.key.data(), not_null(bytes), size,
                                     not_null_words(offsets), num_offsets, not_null_words(hashes),
                                     count);

@@ -55,11 +55,11 @@ static bool add_line(struct block *block, const char *line, size_t size) {
 static bool write_new(struct block *block, const fastbloom_filter *filter) {
     uint64_t hashes[BLOCK], fresh[BLOCK / 64];
     size_t count = block->count;
-    bool well = fastbloom_hash_items(filter->key, (const uint8_t *)block->bytes, block->size,
-                                     block->offsets, count + 1, hashes, count) &&
-                fastbloom_insert_hashes_tell_new(filter->words, filter->num_words,
-                                                 filter->num_hashes, hashes, count, fresh,
-                                                 BLOCK / 64);
+    bool well =
+        fastbloom_hash_items(filter->key, (const uint8_t *)block->bytes, block->size,
+                             block->offsets, count + 1, hashes, count) &&
+        fastbloom_insert_hashes_tell_new(filter->words, filter->num_words, filter->num_hashes,
+                                         hashes, count, fresh, BLOCK / 64);
     for (size_t i = 0; well && i < count; i++) {
         size_t begin = block->offsets[i], size = block->offsets[i + 1] - begin;
         if (fresh[i / 64] >> i % 64 & 1)

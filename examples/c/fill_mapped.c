@@ -18,8 +18,7 @@ static bool make_empty(const char *path, size_t items) {
     fastbloom_filter filter = {.key = {0}};
     if (fastbloom_plan(1, 1000, items, &filter.num_words, &filter.num_hashes) != 0) return false;
     filter.words = calloc(filter.num_words, sizeof *filter.words);
-    bool made =
-        filter.words != NULL && fastbloom_save(path, &filter, false) == FASTBLOOM_OK;
+    bool made = filter.words != NULL && fastbloom_save(path, &filter, false) == FASTBLOOM_OK;
     free(filter.words);
     return made;
 }
