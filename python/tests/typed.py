@@ -45,7 +45,9 @@ def kept(path: str) -> Tuple[Filter, Own, Optional[int], List[bool]]:
 def fill(some: AnyFilter, names: List[str]) -> int:
     some.update(names, iter([b"bytes"]))
     fresh: Mask = some.add_hashes_tell_new(array("Q", [1, 2]))
-    return fresh.count() + sum(fresh[:1]) + some.count_ones()
+    high: Optional[int] = some.estimate().high
+    print(high, some.false_positive_rate()[1])
+    return fresh.count() + sum(fresh[:1]) + some.count_ones() + some.capacity_for("1/1000")
 
 
 def sets(mine: Own, other: Filter) -> Tuple[Own, Own, bool, float, memoryview]:
@@ -62,7 +64,8 @@ def shared(path: str, memory: bytearray) -> Tuple[Filter, Mask]:
     ours.update(["a text", b"bytes"])
     ours.add_hashes(array("Q", [1, 2]))
     was_in: bool = ours.add("a text")
-    print("a text" in ours, was_in)
+    both: Filter = (ours | SharedFilter.map(path, max_words=10)) & ours.load()
+    print("a text" in ours, was_in, ours <= ours, ours.approx_items, both)
     return ours.take(), ours.contains_hashes(array("Q", [1]))
 
 
@@ -78,6 +81,8 @@ def in_lines(theirs: BlockedFilter) -> Tuple[BlockedFilter, Mask]:
     ours |= SharedBlockedFilter.map(b"lines.bloom")
     lines |= theirs
     lines.update(theirs, ["a text"])
+    common: Optional[int] = lines.union(theirs, ["a text"]).estimated_common(theirs).high
+    print(common, lines.issubset(theirs), lines.intersection(theirs) < lines)
     return lines & theirs.copy(), lines.contains_hashes(array("Q", [1]))
 
 
@@ -95,6 +100,8 @@ def refused(mine: Filter, ours: SharedFilter, lines: BlockedFilter) -> None:
     mine.add(5)  # type: ignore[arg-type]
     mine.update([5])  # type: ignore[list-item]
     fill(set(), [])  # type: ignore[arg-type]
+    lines.issubset(mine)  # type: ignore[arg-type]
+    mine.capacity_for(None)  # type: ignore[arg-type]
     mine.issubset({"a text"})  # type: ignore[arg-type]
     RotatingFilter(10, "1/2").add(5)  # type: ignore[arg-type]
     Filter(1000, None)  # type: ignore[arg-type]

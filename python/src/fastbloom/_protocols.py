@@ -2,9 +2,10 @@
 
 from __future__ import annotations
 
-from typing import Any, Iterable, List, Protocol, runtime_checkable
+from typing import Any, Iterable, List, Protocol, Tuple, runtime_checkable
 
-from ._items import Buffer, Item
+from ._checks import Estimate
+from ._items import Buffer, Item, Rate
 from ._mask import Mask
 
 
@@ -65,4 +66,13 @@ class AnyFilter(Protocol):
         ...
 
     def count_ones(self) -> int:
+        ...
+
+    def estimate(self) -> Estimate:
+        ...
+
+    def false_positive_rate(self) -> Tuple[float, float]:
+        ...
+
+    def capacity_for(self, rate: Rate) -> int:
         ...
