@@ -80,7 +80,7 @@ macro_rules! of_two {
         ///
         /// # Panics
         #[doc = concat!("Where the filters differ in words, hashes or keys, which [`same_shape`](",
-                                stringify!($filter), "::same_shape) tells.")]
+                                        stringify!($filter), "::same_shape) tells.")]
         impl BitOrAssign<&$filter> for $filter {
             fn bitor_assign(&mut self, other: &$filter) {
                 self.union(other).expect(OTHER_SHAPE);
