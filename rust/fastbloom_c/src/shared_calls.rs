@@ -371,7 +371,7 @@ macro_rules! shared_calls {
             }
         }
 
-        /// Inserts each item, as [`insert_all`](Shared::insert_all).
+        /// Inserts each item, as [`insert_all`](Self::insert_all).
         ///
         /// ```
         #[doc = $use]
