@@ -1,7 +1,7 @@
 //! Filters: single items, and two filters.
 
-use crate::{raw, Bracket, Error};
-use std::fmt;
+use crate::plain_calls::plain_calls;
+use crate::{raw, Bracket};
 
 /// The hash of an item: SipHash-1-3 of exactly its bytes under the key.
 ///
@@ -40,185 +40,14 @@ pub struct BloomFilter {
     pub(crate) key: raw::Key,
 }
 
+plain_calls!(
+    BloomFilter,
+    words,
+    raw,
+    "# use fastbloom_c::BloomFilter as Filter;"
+);
+
 impl BloomFilter {
-    /// Inserts an item, and returns whether it was contained before, which may be a false positive.
-    ///
-    /// ```
-    /// # use fastbloom_c::BloomFilter;
-    /// let mut seen = BloomFilter::with_num_bits(1024)?.hashes(4);
-    /// assert!(!seen.insert("crab"));
-    /// assert!(seen.insert(b"crab")); // the same bytes
-    /// # Ok::<(), fastbloom_c::Error>(())
-    /// ```
-    pub fn insert(&mut self, val: &(impl AsRef<[u8]> + ?Sized)) -> bool {
-        raw::insert(&mut self.words, self.num_hashes, &self.key, val.as_ref())
-    }
-
-    /// Whether an item is contained. False: it was never inserted. True may be a false positive.
-    ///
-    /// ```
-    /// # use fastbloom_c::BloomFilter;
-    /// let seen = BloomFilter::with_num_bits(1024)?.items(["crab"]);
-    /// assert!(seen.contains("crab") && !seen.contains("lobster"));
-    /// # Ok::<(), fastbloom_c::Error>(())
-    /// ```
-    #[must_use]
-    pub fn contains(&self, val: &(impl AsRef<[u8]> + ?Sized)) -> bool {
-        raw::contains(&self.words, self.num_hashes, &self.key, val.as_ref())
-    }
-
-    /// The hash of an item: SipHash-1-3 of exactly its bytes under the filter's key.
-    ///
-    /// ```
-    /// # use fastbloom_c::BloomFilter;
-    /// let seen = BloomFilter::with_num_bits(1024)?.items(["crab"]);
-    /// assert!(seen.contains_hash(seen.source_hash("crab")));
-    /// # Ok::<(), fastbloom_c::Error>(())
-    /// ```
-    #[must_use]
-    pub fn source_hash(&self, val: &(impl AsRef<[u8]> + ?Sized)) -> u64 {
-        hash(&self.key, val)
-    }
-
-    /// As [`insert`](Self::insert), by the hash.
-    ///
-    /// ```
-    /// # use fastbloom_c::BloomFilter;
-    /// let mut seen = BloomFilter::from_vec(vec![0])?.hashes(2);
-    /// assert!(!seen.insert_hash(1));
-    /// assert_eq!(seen.as_slice(), [1 << 20 | 1]);
-    /// # Ok::<(), fastbloom_c::Error>(())
-    /// ```
-    pub fn insert_hash(&mut self, hash: u64) -> bool {
-        raw::insert_hash(&mut self.words, self.num_hashes, hash)
-    }
-
-    /// As [`contains`](Self::contains), by the hash.
-    ///
-    /// ```
-    /// # use fastbloom_c::BloomFilter;
-    /// let seen = BloomFilter::from_vec(vec![1 << 20 | 1])?.hashes(2);
-    /// assert!(seen.contains_hash(1));
-    /// # Ok::<(), fastbloom_c::Error>(())
-    /// ```
-    #[must_use]
-    pub fn contains_hash(&self, hash: u64) -> bool {
-        raw::contains_hash(&self.words, self.num_hashes, hash)
-    }
-
-    /// Removes every item.
-    ///
-    /// ```
-    /// # use fastbloom_c::BloomFilter;
-    /// let mut seen = BloomFilter::with_num_bits(1024)?.items(["crab"]);
-    /// seen.clear();
-    /// assert!(!seen.contains("crab"));
-    /// # Ok::<(), fastbloom_c::Error>(())
-    /// ```
-    pub fn clear(&mut self) {
-        raw::clear(&mut self.words);
-    }
-
-    /// Whether [`union`](Self::union) and [`intersect`](Self::intersect) take the other filter: it
-    /// has as many words and hashes, and the same key.
-    ///
-    /// ```
-    /// # use fastbloom_c::BloomFilter;
-    /// let seen = BloomFilter::with_num_bits(64)?.hashes(2);
-    /// assert!(seen.same_shape(&seen.clone()));
-    /// assert!(!seen.same_shape(&BloomFilter::with_num_bits(65)?.hashes(2)));
-    /// assert!(!seen.same_shape(&BloomFilter::with_num_bits(64)?.seed(&1).hashes(2)));
-    /// # Ok::<(), fastbloom_c::Error>(())
-    /// ```
-    #[must_use]
-    pub fn same_shape(&self, other: &BloomFilter) -> bool {
-        self.words.len() == other.words.len()
-            && self.num_hashes == other.num_hashes
-            && self.key == other.key
-    }
-
-    /// Takes the items of the other filter in.
-    ///
-    /// # Errors
-    /// [`Error::OtherShape`] where the filters differ in words, hashes or keys.
-    ///
-    /// ```
-    /// # use fastbloom_c::BloomFilter;
-    /// let empty = BloomFilter::with_num_bits(1024)?.hashes(4);
-    /// let (mut seen, mut other) = (empty.clone(), empty);
-    /// seen.insert("crab");
-    /// other.insert("lobster");
-    /// seen.union(&other)?;
-    /// assert!(seen.contains("crab") && seen.contains("lobster"));
-    /// # Ok::<(), fastbloom_c::Error>(())
-    /// ```
-    pub fn union(&mut self, other: &BloomFilter) -> Result<(), Error> {
-        if self.same_shape(other) && raw::union(&mut self.words, &other.words) {
-            Ok(())
-        } else {
-            Err(Error::OtherShape)
-        }
-    }
-
-    /// Keeps only what may be in both filters.
-    ///
-    /// # Errors
-    /// [`Error::OtherShape`] where the filters differ in words, hashes or keys.
-    ///
-    /// ```
-    /// # use fastbloom_c::BloomFilter;
-    /// let mut seen = BloomFilter::with_num_bits(1024)?.items(["crab", "lobster"]);
-    /// let other = BloomFilter::with_num_bits(1024)?.items(["lobster", "whale"]);
-    /// seen.intersect(&other)?;
-    /// assert!(seen.contains("lobster") && !seen.contains("crab"));
-    /// # Ok::<(), fastbloom_c::Error>(())
-    /// ```
-    pub fn intersect(&mut self, other: &BloomFilter) -> Result<(), Error> {
-        if self.same_shape(other) && raw::intersect(&mut self.words, &other.words) {
-            Ok(())
-        } else {
-            Err(Error::OtherShape)
-        }
-    }
-
-    /// The number of positions that an item has.
-    ///
-    /// ```
-    /// # use fastbloom_c::BloomFilter;
-    /// assert_eq!(BloomFilter::with_num_bits(1024)?.hashes(4).num_hashes(), 4);
-    /// # Ok::<(), fastbloom_c::Error>(())
-    /// ```
-    #[must_use]
-    pub fn num_hashes(&self) -> u32 {
-        self.num_hashes
-    }
-
-    /// The number of bits.
-    ///
-    /// ```
-    /// # use fastbloom_c::BloomFilter;
-    /// let seen = BloomFilter::with_num_bits(65)?.hashes(0);
-    /// assert_eq!((seen.num_bits(), seen.num_hashes()), (128, 1));
-    /// # Ok::<(), fastbloom_c::Error>(())
-    /// ```
-    #[must_use]
-    pub fn num_bits(&self) -> usize {
-        raw::num_bits(self.words.len())
-    }
-
-    /// The key, which decides the hash of an item. It may be secret.
-    ///
-    /// ```
-    /// # use fastbloom_c::BloomFilter;
-    /// let seen = BloomFilter::with_num_bits(64)?.seed(&42).hashes(1);
-    /// assert_eq!(u128::from_be_bytes(*seen.key()), 42);
-    /// # Ok::<(), fastbloom_c::Error>(())
-    /// ```
-    #[must_use]
-    pub fn key(&self) -> &[u8; 16] {
-        &self.key
-    }
-
     /// The words. Bit p of the filter is bit p % 64, from the lowest one, of word p / 64.
     ///
     /// ```
@@ -230,31 +59,6 @@ impl BloomFilter {
     #[must_use]
     pub fn as_slice(&self) -> &[u64] {
         &self.words
-    }
-
-    /// The words, by value.
-    ///
-    /// ```
-    /// # use fastbloom_c::BloomFilter;
-    /// let seen = BloomFilter::from_vec(vec![5, 6])?.hashes(1);
-    /// assert_eq!(seen.iter().sum::<u64>(), 11);
-    /// # Ok::<(), fastbloom_c::Error>(())
-    /// ```
-    pub fn iter(&self) -> impl ExactSizeIterator<Item = u64> + '_ {
-        self.words.iter().copied()
-    }
-
-    /// The number of bits that are set.
-    ///
-    /// ```
-    /// # use fastbloom_c::BloomFilter;
-    /// let seen = BloomFilter::from_vec(vec![5, 6])?.hashes(1);
-    /// assert_eq!(seen.count_ones(), 4);
-    /// # Ok::<(), fastbloom_c::Error>(())
-    /// ```
-    #[must_use]
-    pub fn count_ones(&self) -> usize {
-        raw::count_ones(&self.words)
     }
 
     /// Two bounds of the classical formula of the rate of false positives, once this many items are
@@ -300,22 +104,5 @@ impl BloomFilter {
     #[must_use]
     pub fn false_pos_now(&self) -> Bracket {
         Bracket::of_filter(raw::rate_now(&self.words, self.num_hashes))
-    }
-}
-
-impl PartialEq for BloomFilter {
-    fn eq(&self, other: &BloomFilter) -> bool {
-        self.same_shape(other) && raw::equal(&self.words, &other.words)
-    }
-}
-
-impl Eq for BloomFilter {}
-
-impl fmt::Debug for BloomFilter {
-    fn fmt(&self, f: &mut fmt::Formatter<'_>) -> fmt::Result {
-        f.debug_struct("BloomFilter")
-            .field("num_bits", &self.num_bits())
-            .field("num_hashes", &self.num_hashes)
-            .finish_non_exhaustive()
     }
 }

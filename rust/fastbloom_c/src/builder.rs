@@ -1,7 +1,6 @@
 //! How a filter is made: by its size, its words, or a rate of false positives.
 
 use crate::{raw, BloomFilter, Error, Rate};
-use std::fmt;
 
 const ZERO_KEY: raw::Key = [0; 16];
 
@@ -119,150 +118,177 @@ impl BloomFilter {
     }
 }
 
-impl BuilderWithBits {
-    /// Sets the key: the sixteen big-endian bytes of the seed.
-    ///
-    /// ```
-    /// # use fastbloom_c::BloomFilter;
-    /// let key = *b"sixteen bytes...";
-    /// let seed = u128::from_be_bytes(key);
-    /// assert_eq!(BloomFilter::with_num_bits(64)?.seed(&seed).hashes(1).key(), &key);
-    /// # Ok::<(), fastbloom_c::Error>(())
-    /// ```
-    #[must_use]
-    pub fn seed(self, seed: &u128) -> Self {
-        BuilderWithBits {
-            key: seed.to_be_bytes(),
-            ..self
+/// The calls of the builders of a kind of filters, whose words or lines are in this field and have
+/// so many bits. The examples use the filter as `Filter`.
+macro_rules! builder_calls {
+    ($filter:ident, $with_bits:ident, $with_rate:ident, $words:ident, $raw:ident, $bits:expr,
+     $use:literal) => {
+        impl $with_bits {
+            /// Sets the key: the sixteen big-endian bytes of the seed.
+            ///
+            /// ```
+            #[doc = $use]
+            /// let key = *b"sixteen bytes...";
+            /// let seed = u128::from_be_bytes(key);
+            /// assert_eq!(Filter::with_num_bits(512)?.seed(&seed).hashes(1).key(), &key);
+            /// # Ok::<(), fastbloom_c::Error>(())
+            /// ```
+            #[must_use]
+            pub fn seed(self, seed: &u128) -> Self {
+                $with_bits {
+                    key: seed.to_be_bytes(),
+                    ..self
+                }
+            }
+
+            /// The filter with this many hashes, where 0 counts as 1.
+            ///
+            /// ```
+            #[doc = $use]
+            /// let builder = Filter::with_num_bits(512)?;
+            /// assert_eq!(builder.clone().hashes(4).num_hashes(), 4);
+            /// assert_eq!(builder.hashes(0).num_hashes(), 1);
+            /// # Ok::<(), fastbloom_c::Error>(())
+            /// ```
+            #[must_use]
+            pub fn hashes(self, num_hashes: u32) -> $filter {
+                $filter {
+                    $words: self.$words,
+                    num_hashes: num_hashes.max(1),
+                    key: self.key,
+                }
+            }
+
+            /// The filter with the number of hashes that suits this many items, where 0 counts as
+            /// 1. This number is computed here, and not by the library.
+            ///
+            /// ```
+            #[doc = $use]
+            /// let seen = Filter::with_num_bits(10_240)?.expected_items(1000);
+            /// assert_eq!((seen.num_bits(), seen.num_hashes()), (10_240, 7));
+            /// # Ok::<(), fastbloom_c::Error>(())
+            /// ```
+            #[must_use]
+            pub fn expected_items(self, expected_items: usize) -> $filter {
+                let num_hashes = hashes_for($bits * self.$words.len(), expected_items);
+                self.hashes(num_hashes)
+            }
+
+            /// The filter with the number of hashes that suits these items, and with the items.
+            ///
+            /// ```
+            #[doc = $use]
+            /// let seen = Filter::with_num_bits(1024)?.items(["42", "🦀"]);
+            /// assert!(seen.contains("42") && seen.contains("🦀"));
+            /// # Ok::<(), fastbloom_c::Error>(())
+            /// ```
+            #[must_use]
+            pub fn items<T, I>(self, items: I) -> $filter
+            where
+                T: AsRef<[u8]>,
+                I: IntoIterator<Item = T>,
+                I::IntoIter: ExactSizeIterator,
+            {
+                let items = items.into_iter();
+                let mut filter = self.expected_items(items.len());
+                filter.insert_all(items);
+                filter
+            }
         }
-    }
 
-    /// The filter with this many hashes, where 0 counts as 1.
-    ///
-    /// ```
-    /// # use fastbloom_c::BloomFilter;
-    /// assert_eq!(BloomFilter::with_num_bits(1024)?.hashes(4).num_hashes(), 4);
-    /// # Ok::<(), fastbloom_c::Error>(())
-    /// ```
-    #[must_use]
-    pub fn hashes(self, num_hashes: u32) -> BloomFilter {
-        BloomFilter {
-            words: self.words,
-            num_hashes: num_hashes.max(1),
-            key: self.key,
+        impl $with_rate {
+            /// Sets the key: the sixteen big-endian bytes of the seed.
+            ///
+            /// ```
+            #[doc = $use]
+            /// # use fastbloom_c::Rate;
+            /// let builder = Filter::with_false_pos(Rate::new(1, 1000)?).seed(&42);
+            /// assert_eq!(u128::from_be_bytes(*builder.expected_items(10)?.key()), 42);
+            /// # Ok::<(), fastbloom_c::Error>(())
+            /// ```
+            #[must_use]
+            pub fn seed(self, seed: &u128) -> Self {
+                $with_rate {
+                    key: seed.to_be_bytes(),
+                    ..self
+                }
+            }
+
+            /// The empty filter for this many items, where 0 counts as 1.
+            ///
+            /// ```
+            #[doc = $use]
+            /// # use fastbloom_c::Rate;
+            /// let builder = Filter::with_false_pos(Rate::new(1, 1000)?);
+            /// assert_eq!(builder.expected_items(1000)?.count_ones(), 0); // it is empty
+            /// # Ok::<(), fastbloom_c::Error>(())
+            /// ```
+            ///
+            /// # Errors
+            /// [`Error::SizeOverflow`], [`Error::TooManyWords`] or [`Error::Memory`].
+            pub fn expected_items(self, expected_items: usize) -> Result<$filter, Error> {
+                let (count, num_hashes) =
+                    $raw::plan(self.rate.num(), self.rate.den(), expected_items)?;
+                Ok($filter {
+                    $words: $raw::zeros(count)?,
+                    num_hashes,
+                    key: self.key,
+                })
+            }
+
+            /// The filter of these items.
+            ///
+            /// ```
+            #[doc = $use]
+            /// # use fastbloom_c::Rate;
+            /// let builder = Filter::with_false_pos(Rate::new(1, 1000)?);
+            /// let seen = builder.items(["42", "🦀"])?;
+            /// assert!(seen.contains("42") && seen.contains("🦀"));
+            /// # Ok::<(), fastbloom_c::Error>(())
+            /// ```
+            ///
+            /// # Errors
+            /// As [`expected_items`](Self::expected_items).
+            pub fn items<T, I>(self, items: I) -> Result<$filter, Error>
+            where
+                T: AsRef<[u8]>,
+                I: IntoIterator<Item = T>,
+                I::IntoIter: ExactSizeIterator,
+            {
+                let items = items.into_iter();
+                let mut filter = self.expected_items(items.len())?;
+                filter.insert_all(items);
+                Ok(filter)
+            }
         }
-    }
 
-    /// The filter with the number of hashes that suits this many items, where 0 counts as 1. This
-    /// number is computed here, and not by the library.
-    ///
-    /// ```
-    /// # use fastbloom_c::BloomFilter;
-    /// assert_eq!(BloomFilter::with_num_bits(1024)?.expected_items(2).num_hashes(), 355);
-    /// # Ok::<(), fastbloom_c::Error>(())
-    /// ```
-    #[must_use]
-    pub fn expected_items(self, expected_items: usize) -> BloomFilter {
-        let num_hashes = hashes_for(64 * self.words.len(), expected_items);
-        self.hashes(num_hashes)
-    }
-
-    /// The filter with the number of hashes that suits these items, and with the items.
-    ///
-    /// ```
-    /// # use fastbloom_c::BloomFilter;
-    /// let seen = BloomFilter::with_num_bits(1024)?.items(["42", "🦀"]);
-    /// assert!(seen.contains("42") && seen.contains("🦀"));
-    /// # Ok::<(), fastbloom_c::Error>(())
-    /// ```
-    #[must_use]
-    pub fn items<T, I>(self, items: I) -> BloomFilter
-    where
-        T: AsRef<[u8]>,
-        I: IntoIterator<Item = T>,
-        I::IntoIter: ExactSizeIterator,
-    {
-        let items = items.into_iter();
-        let mut filter = self.expected_items(items.len());
-        filter.insert_all(items);
-        filter
-    }
-}
-
-impl BuilderWithFalsePositiveRate {
-    /// Sets the key, as [`BuilderWithBits::seed`].
-    ///
-    /// ```
-    /// # use fastbloom_c::{BloomFilter, Rate};
-    /// let builder = BloomFilter::with_false_pos(Rate::new(1, 1000)?).seed(&42);
-    /// assert_eq!(u128::from_be_bytes(*builder.expected_items(10)?.key()), 42);
-    /// # Ok::<(), fastbloom_c::Error>(())
-    /// ```
-    #[must_use]
-    pub fn seed(self, seed: &u128) -> Self {
-        BuilderWithFalsePositiveRate {
-            key: seed.to_be_bytes(),
-            ..self
+        impl std::fmt::Debug for $with_bits {
+            fn fmt(&self, f: &mut std::fmt::Formatter<'_>) -> std::fmt::Result {
+                let num_bits = $bits * self.$words.len();
+                f.debug_struct(stringify!($with_bits))
+                    .field("num_bits", &num_bits)
+                    .finish_non_exhaustive()
+            }
         }
-    }
 
-    /// The empty filter for this many items, where 0 counts as 1.
-    ///
-    /// ```
-    /// # use fastbloom_c::{BloomFilter, Rate};
-    /// let seen = BloomFilter::with_false_pos(Rate::new(1, 1000)?).expected_items(1000)?;
-    /// assert_eq!((seen.as_slice().len(), seen.num_hashes()), (225, 10));
-    /// # Ok::<(), fastbloom_c::Error>(())
-    /// ```
-    ///
-    /// # Errors
-    /// [`Error::SizeOverflow`], [`Error::TooManyWords`] or [`Error::Memory`].
-    pub fn expected_items(self, expected_items: usize) -> Result<BloomFilter, Error> {
-        let (num_words, num_hashes) = raw::plan(self.rate.num(), self.rate.den(), expected_items)?;
-        Ok(BloomFilter {
-            words: raw::zeros(num_words)?,
-            num_hashes,
-            key: self.key,
-        })
-    }
-
-    /// The filter of these items.
-    ///
-    /// ```
-    /// # use fastbloom_c::{BloomFilter, Rate};
-    /// let seen = BloomFilter::with_false_pos(Rate::new(1, 1000)?).items(["42", "🦀"])?;
-    /// assert!(seen.contains("42") && seen.contains("🦀"));
-    /// # Ok::<(), fastbloom_c::Error>(())
-    /// ```
-    ///
-    /// # Errors
-    /// As [`expected_items`](Self::expected_items).
-    pub fn items<T, I>(self, items: I) -> Result<BloomFilter, Error>
-    where
-        T: AsRef<[u8]>,
-        I: IntoIterator<Item = T>,
-        I::IntoIter: ExactSizeIterator,
-    {
-        let items = items.into_iter();
-        let mut filter = self.expected_items(items.len())?;
-        filter.insert_all(items);
-        Ok(filter)
-    }
+        impl std::fmt::Debug for $with_rate {
+            fn fmt(&self, f: &mut std::fmt::Formatter<'_>) -> std::fmt::Result {
+                f.debug_struct(stringify!($with_rate))
+                    .field("rate", &self.rate)
+                    .finish_non_exhaustive()
+            }
+        }
+    };
 }
 
-impl fmt::Debug for BuilderWithBits {
-    fn fmt(&self, f: &mut fmt::Formatter<'_>) -> fmt::Result {
-        let num_bits = 64 * self.words.len();
-        f.debug_struct("BuilderWithBits")
-            .field("num_bits", &num_bits)
-            .finish_non_exhaustive()
-    }
-}
+pub(crate) use builder_calls;
 
-impl fmt::Debug for BuilderWithFalsePositiveRate {
-    fn fmt(&self, f: &mut fmt::Formatter<'_>) -> fmt::Result {
-        f.debug_struct("BuilderWithFalsePositiveRate")
-            .field("rate", &self.rate)
-            .finish_non_exhaustive()
-    }
-}
+builder_calls!(
+    BloomFilter,
+    BuilderWithBits,
+    BuilderWithFalsePositiveRate,
+    words,
+    raw,
+    64,
+    "# use fastbloom_c::BloomFilter as Filter;"
+);

@@ -82,6 +82,7 @@ mod mapped;
 mod operators;
 mod paths;
 mod pieces;
+mod plain_calls;
 mod rate;
 #[allow(unsafe_code)]
 mod raw;
@@ -91,6 +92,7 @@ mod raw_blocked;
 mod raw_shared;
 mod rotating;
 mod shared;
+mod shared_calls;
 
 pub use blocked::{
     BlockedBloomFilter, BlockedBuilderWithBits, BlockedBuilderWithFalsePositiveRate,

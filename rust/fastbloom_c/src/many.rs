@@ -1,6 +1,6 @@
 //! Many items by one call, which costs less than a call for each.
 
-use crate::{hash, raw, BloomFilter, Rate};
+use crate::{hash, BloomFilter, Rate};
 
 /// This many hashes are handed to one call of the library.
 pub(crate) const AT_ONCE: usize = 1024;
@@ -54,95 +54,6 @@ pub(crate) fn insert_all<T: AsRef<[u8]>>(
     };
     for item in items {
         pending.push(hash(key, &item));
-    }
-}
-
-impl BloomFilter {
-    /// Inserts each hash.
-    ///
-    /// ```
-    /// # use fastbloom_c::BloomFilter;
-    /// let mut seen = BloomFilter::with_num_bits(1024)?.hashes(4);
-    /// let hashes = ["crab", "lobster"].map(|name| seen.source_hash(name));
-    /// seen.insert_hashes(&hashes);
-    /// assert!(seen.contains("crab") && seen.contains("lobster"));
-    /// # Ok::<(), fastbloom_c::Error>(())
-    /// ```
-    pub fn insert_hashes(&mut self, hashes: &[u64]) {
-        raw::insert_hashes(&mut self.words, self.num_hashes, hashes);
-    }
-
-    /// Inserts each hash, one after the other, and tells for each whether it was new. A hash that
-    /// comes twice is new once at most.
-    ///
-    /// ```
-    /// # use fastbloom_c::BloomFilter;
-    /// let mut seen = BloomFilter::with_num_bits(1024)?.items(["crab"]);
-    /// let hashes = ["crab", "lobster", "lobster"].map(|name| seen.source_hash(name));
-    /// assert_eq!(seen.insert_hashes_tell_new(&hashes), [false, true, false]);
-    /// # Ok::<(), fastbloom_c::Error>(())
-    /// ```
-    pub fn insert_hashes_tell_new(&mut self, hashes: &[u64]) -> Vec<bool> {
-        let mut told = Vec::with_capacity(hashes.len());
-        for part in hashes.chunks(AT_ONCE) {
-            let mut bits = Bits::default();
-            let done =
-                raw::insert_hashes_tell_new(&mut self.words, self.num_hashes, part, &mut bits);
-            assert!(done, "there are bits for all");
-            push_bits(&mut told, &bits, part.len());
-        }
-        told
-    }
-
-    /// Tells for each hash whether it is contained. True may be a false positive.
-    ///
-    /// ```
-    /// # use fastbloom_c::BloomFilter;
-    /// let seen = BloomFilter::with_num_bits(1024)?.items(["crab"]);
-    /// let hashes = ["crab", "lobster"].map(|name| seen.source_hash(name));
-    /// assert_eq!(seen.contains_hashes(&hashes), [true, false]);
-    /// # Ok::<(), fastbloom_c::Error>(())
-    /// ```
-    #[must_use]
-    pub fn contains_hashes(&self, hashes: &[u64]) -> Vec<bool> {
-        let mut told = Vec::with_capacity(hashes.len());
-        for part in hashes.chunks(AT_ONCE) {
-            let mut bits = Bits::default();
-            let done = raw::contains_hashes(&self.words, self.num_hashes, part, &mut bits);
-            assert!(done, "there are bits for all");
-            push_bits(&mut told, &bits, part.len());
-        }
-        told
-    }
-
-    /// Inserts each item of an iterator, many by one call of the library. Where the iterator panics,
-    /// the items before are inserted.
-    ///
-    /// ```
-    /// # use fastbloom_c::BloomFilter;
-    /// let mut seen = BloomFilter::with_num_bits(1024)?.hashes(4);
-    /// seen.insert_all(["crab", "lobster"]);
-    /// assert!(seen.contains("crab") && seen.contains("lobster"));
-    /// # Ok::<(), fastbloom_c::Error>(())
-    /// ```
-    pub fn insert_all<T: AsRef<[u8]>>(&mut self, items: impl IntoIterator<Item = T>) {
-        let key = self.key;
-        insert_all(&key, items, |hashes| self.insert_hashes(hashes));
-    }
-}
-
-/// Inserts each item, as [`insert_all`](BloomFilter::insert_all).
-///
-/// ```
-/// # use fastbloom_c::BloomFilter;
-/// let mut seen = BloomFilter::with_num_bits(1024)?.hashes(4);
-/// seen.extend("crab and lobster".split(' '));
-/// assert!(seen.contains("lobster"));
-/// # Ok::<(), fastbloom_c::Error>(())
-/// ```
-impl<T: AsRef<[u8]>> Extend<T> for BloomFilter {
-    fn extend<I: IntoIterator<Item = T>>(&mut self, items: I) {
-        self.insert_all(items);
     }
 }
 

@@ -66,7 +66,7 @@ macro_rules! of_two {
             }
         }
 
-        #[doc = concat!("As [`union`](", stringify!($filter), "::union).")]
+        /// As [`union`](Self::union).
         ///
         /// ```
         #[doc = concat!("# use fastbloom_c::", stringify!($filter), " as Filter;")]
@@ -79,15 +79,15 @@ macro_rules! of_two {
         /// ```
         ///
         /// # Panics
-        #[doc = concat!("Where the filters differ in words, hashes or keys, which [`same_shape`](",
-                                stringify!($filter), "::same_shape) tells.")]
+        /// Where the filters differ in words, hashes or keys, which
+        /// [`same_shape`](Self::same_shape) tells.
         impl BitOrAssign<&$filter> for $filter {
             fn bitor_assign(&mut self, other: &$filter) {
                 self.union(other).expect(OTHER_SHAPE);
             }
         }
 
-        #[doc = concat!("As [`intersect`](", stringify!($filter), "::intersect).")]
+        /// As [`intersect`](Self::intersect).
         ///
         /// ```
         #[doc = concat!("# use fastbloom_c::", stringify!($filter), " as Filter;")]
