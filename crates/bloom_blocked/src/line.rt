@@ -94,12 +94,7 @@ fn insert_each<W: TurnWords>(words: &W, turn: &mut Turn, num_hashes: u32, hashes
 /// Loads the ends of the lines of each of these hashes, so that memory fetches them side by side,
 /// and then inserts the hashes, in order, from this turn on.
 #[inline(always)]
-pub fn load_then_insert<W: TurnWords>(
-    words: &W,
-    turn: &mut Turn,
-    num_hashes: u32,
-    hashes: &[u64],
-)
+pub fn load_then_insert<W: TurnWords>(words: &W, turn: &mut Turn, num_hashes: u32, hashes: &[u64])
     requires { 8 ≤ (W.vector words.now).count }
     ensures { EachInTurn (WasSetInLine (W.vector words.now) num_hashes) hashes.now
         turn.old turn.new }

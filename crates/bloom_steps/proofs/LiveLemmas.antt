@@ -5,7 +5,7 @@ use Rattle.bloom_parts.specs.Made.{SharedWords}
 use Rattle.bloom_steps.specs.declared.steps.vocabulary.Call.TheVariants.{Contains, Insert}
 use Rattle.bloom_steps.specs.declared.steps.vocabulary.End.TheVariants.{Done}
 use Rattle.bloom_steps.specs.declared.steps.vocabulary.Call.{Call}
-use Rattle.bloom_steps.specs.LiveSteps.{IsMade, Lent, MakesCallInTurn, MakesCallOn, MakesStep}
+use Rattle.bloom_steps.specs.LiveSteps.{EachInTurn, IsMade, Lent, MakesCallInTurn, MakesCallOn, MakesStep, WasInserted}
 use Rattle.bloom_steps.specs.Plans.{plan_of}
 use Rattle.bloom_steps.specs.Scripts.{Taken, Each, Linked, IsScript, IsLastEnd, Drives, answer_of, answer_of_end}
 
@@ -124,3 +124,9 @@ call-silent words other hashes call reply calls ends = record {
   made = calls.made;
   answers = sym (silent calls.taken (λ i t got last. ends t (calls.script.last i t got last)));
 }
+
+-- one hash was inserted
+pub insert-one : (words : SharedWords) (k hash : ℕ) (reply : Bool) (first last : ℕ)
+    → MakesCallInTurn words words k (Insert hash) (Some reply) first last
+    → EachInTurn (WasInserted words k) (hash ∷ []) first last
+insert-one words k hash reply first last did = (last, (reply, did), refl)

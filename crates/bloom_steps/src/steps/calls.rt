@@ -37,12 +37,7 @@ fn make<W: TurnWords>(
 /// Sets all positions of a hash, from this turn on, and returns whether its own steps found all of
 /// them set already.
 #[inline(always)]
-pub fn insert_in_turn<W: TurnWords>(
-    words: &W,
-    turn: &mut Turn,
-    num_hashes: u32,
-    hash: u64,
-) -> bool
+pub fn insert_in_turn<W: TurnWords>(words: &W, turn: &mut Turn, num_hashes: u32, hash: u64) -> bool
     requires { 1 ≤ num_hashes }
     ensures { let vector = W.vector words.now in MakesCallInTurn vector vector num_hashes
         (call.Insert hash) (Some result) turn.old turn.new }
@@ -70,7 +65,13 @@ pub fn contains_hash<W: TurnWords>(words: &W, num_hashes: u32, hash: u64) -> boo
     ensures { let vector = W.vector words.now in
         MakesCallOn vector vector num_hashes (call.Contains hash) (Some result) }
 {
-    match make(words, words, &mut Turn::first(), Call::Contains(hash), num_hashes) {
+    match make(
+        words,
+        words,
+        &mut Turn::first(),
+        Call::Contains(hash),
+        num_hashes,
+    ) {
         Some(all_on) => all_on,
         None => unreachable!(),
     }
@@ -102,12 +103,7 @@ fn insert_each<W: TurnWords>(words: &W, turn: &mut Turn, num_hashes: u32, hashes
 /// Loads the words of each of these hashes, so that memory fetches them side by side, and then
 /// inserts the hashes, in order, from this turn on.
 #[inline(always)]
-pub fn load_then_insert<W: TurnWords>(
-    words: &W,
-    turn: &mut Turn,
-    num_hashes: u32,
-    hashes: &[u64],
-)
+pub fn load_then_insert<W: TurnWords>(words: &W, turn: &mut Turn, num_hashes: u32, hashes: &[u64])
     requires { 1 ≤ num_hashes }
     ensures { EachInTurn (WasInserted (W.vector words.now) num_hashes) hashes.now
         turn.old turn.new }
@@ -176,7 +172,13 @@ pub fn intersect<W: TurnWords>(words: &W, other: &W, num_hashes: u32)
     ensures { MakesCallOn (W.vector words.now) (W.vector other.now) num_hashes call.Intersect
         None }
 {
-    make(words, other, &mut Turn::first(), Call::Intersect, num_hashes);
+    make(
+        words,
+        other,
+        &mut Turn::first(),
+        Call::Intersect,
+        num_hashes,
+    );
 }
 
 /// Takes the words out, word 0 first, each into the number with its index. Each word is read and
