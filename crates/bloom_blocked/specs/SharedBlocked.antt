@@ -1,11 +1,11 @@
 -- What contracts see of a blocked filter that threads share, and which steps its calls make.
 -- Contracts don't see its words, since any thread may change them at any time. This project's own.
-use Rattle.std.specs.Prelude.{◌≡◌, ℕ, Bool, List, length, map, All, Option}
+use Rattle.std.specs.Prelude.{◌≡◌, ℕ, Bool, List, length, map, Option}
 use Rattle.bloom_parts.specs.Made.{SharedWords, BeganWith}
 use Rattle.bloom_plain.specs.Filter.{Filter}
 use Rattle.bloom_steps.specs.declared.steps.vocabulary.Call.{Call}
 use Rattle.bloom_steps.specs.LiveSteps.{MakesCallOn}
-use Rattle.bloom_blocked.specs.LineSteps.{LooksInLine, SetsInLine}
+use Rattle.bloom_blocked.specs.LineSteps.{LooksInLine, SetsInLine, WereSetInLines}
 
 -- the vector of the words, the number of hashes, and the hasher
 pub record SharedBlockedFilter (S : Type 0) : Type 0 where
@@ -39,12 +39,12 @@ MakesInsertInLine f hash reply = SetsInLine f.words f.hashes hash reply
 abbrev pub MakesLookUpInLine : {S : Type 0} → SharedBlockedFilter S → ℕ → Bool → Type 0
 MakesLookUpInLine f hash reply = LooksInLine f.words f.hashes hash reply
 
--- a hash was inserted, whatever the reply
-abbrev pub WasInsertedInLine : {S : Type 0} → SharedBlockedFilter S → ℕ → Type 0
-WasInsertedInLine f hash = (reply : Bool) × MakesInsertInLine f hash reply
+-- the hashes of a list were inserted, each by an insert of its own, in order and linked by turns
+abbrev pub WereInsertedInLines : {S : Type 0} → SharedBlockedFilter S → List ℕ → Type 0
+WereInsertedInLines f hashes = WereSetInLines f.words f.hashes hashes
 
--- each item of a list was inserted by its hash under the hasher
+-- each item of a list was inserted by its hash under the hasher, in order and linked by turns
 abbrev pub MakesInsertsInLines :
     {S T : Type 0} → (S → T → ℕ) → SharedBlockedFilter S → List T → Type 0
 MakesInsertsInLines hash_of f items =
-    All (WasInsertedInLine f) (map (hash_of f.hasher) items)
+    WereInsertedInLines f (map (hash_of f.hasher) items)

@@ -1,15 +1,17 @@
 //! Calls by hash on the line of a hash, among words that threads share, wherever they lie.
-ghost use Rattle.std.specs.Prelude.{◌≡◌, ℕ, ◌≤◌, length, All};
+ghost use Rattle.std.specs.Prelude.{◌≡◌, ℕ, ◌≤◌, length};
 ghost use Rattle.bloom_parts.specs.Content.{content, AreWords};
 ghost use Rattle.bloom_parts.specs.Places.{positions};
+ghost use Rattle.bloom_steps.specs.LiveSteps.{EachInTurn};
 ghost use Rattle.bloom_blocked.specs.Lines.{inner_of};
-ghost use Rattle.bloom_blocked.specs.LineSteps.{LooksInLine, SetsInLine, WasSetInLine};
+ghost use Rattle.bloom_blocked.specs.LineSteps.{LooksInLine, SetsInLine, SetsInTurn, WasSetInLine, WereSetInLines};
 
 use crate::many::{LINES_TOGETHER, WORDS_TO_READ_AHEAD};
 use crate::words::{LINE, inner, line_start, with_range};
-use bloom_parts::bit_vector::{Loads, TurnWords};
+use bloom_parts::bit_vector::{Loads, Turn, TurnWords};
 use bloom_parts::slices::insert_in_few_words;
 use bloom_steps::{Call, SpanStore, drive, set_masks};
+use std::mem;
 
 // The words of a line where the positions of a hash are set, and no other.
 #[inline(always)]
@@ -24,6 +26,21 @@ fn masks_of(num_hashes: u32, hash: u64) -> [u64; LINE]
     masks
 }
 
+/// Sets all positions of a hash in its line, from this turn on, and returns whether its own steps
+/// found all of them set already. It makes one step for each word that has positions.
+#[inline(always)]
+pub fn set_in_turn<W: TurnWords>(words: &W, turn: &mut Turn, num_hashes: u32, hash: u64) -> bool
+    requires { 8 ≤ (W.vector words.now).count }
+    ensures { SetsInTurn (W.vector words.now) num_hashes hash result turn.old turn.new }
+{
+    let masks = masks_of(num_hashes, hash);
+    let first = mem::replace(turn, Turn::first());
+    let mut store = SpanStore::new(words, words, line_start(words.len(), hash), LINE, first);
+    let all_set = set_masks(&mut store, &masks);
+    *turn = store.into_turn();
+    all_set
+}
+
 /// Sets all positions of a hash in its line, and returns whether its own steps found all of them
 /// set already. It makes one step for each word that has positions.
 #[inline(always)]
@@ -31,9 +48,7 @@ pub fn set_in_line<W: TurnWords>(words: &W, num_hashes: u32, hash: u64) -> bool
     requires { 8 ≤ (W.vector words.now).count }
     ensures { SetsInLine (W.vector words.now) num_hashes hash result }
 {
-    let masks = masks_of(num_hashes, hash);
-    let mut store = SpanStore::new(words, words, line_start(words.len(), hash), LINE);
-    set_masks(&mut store, &masks)
+    set_in_turn(words, &mut Turn::first(), num_hashes, hash)
 }
 
 /// Whether all positions of a hash are found set in its line, one after the other, up to the first
@@ -44,7 +59,8 @@ pub fn looks_in_line<W: TurnWords>(words: &W, num_hashes: u32, hash: u64) -> boo
     requires hashes { 1 ≤ num_hashes }
     ensures { LooksInLine (W.vector words.now) num_hashes hash result }
 {
-    let mut store = SpanStore::new(words, words, line_start(words.len(), hash), LINE);
+    let start = line_start(words.len(), hash);
+    let mut store = SpanStore::new(words, words, start, LINE, Turn::first());
     match drive(&mut store, Call::Contains(inner(hash)), num_hashes) {
         Some(all_set) => all_set,
         None => unreachable!(),
@@ -64,39 +80,42 @@ fn touch_lines<W: TurnWords>(words: &Loads<'_, W>, hashes: &[u64])
     }
 }
 
-// Inserts each of these hashes, in order.
-fn insert_each<W: TurnWords>(words: &W, num_hashes: u32, hashes: &[u64])
+// Inserts each of these hashes, in order, from this turn on.
+fn insert_each<W: TurnWords>(words: &W, turn: &mut Turn, num_hashes: u32, hashes: &[u64])
     requires { 8 ≤ (W.vector words.now).count }
-    ensures { All (WasSetInLine (W.vector words.now) num_hashes) hashes.now }
+    ensures { EachInTurn (WasSetInLine (W.vector words.now) num_hashes) hashes.now
+        turn.old turn.new }
 {
     'hashes: for hash in hashes {
-        set_in_line(words, num_hashes, *hash);
+        set_in_turn(words, turn, num_hashes, *hash);
     }
 }
 
 /// Loads the ends of the lines of each of these hashes, so that memory fetches them side by side,
-/// and then inserts the hashes, in order.
+/// and then inserts the hashes, in order, from this turn on.
 #[inline(always)]
-pub fn load_then_insert<W: TurnWords>(words: &W, num_hashes: u32, hashes: &[u64])
+pub fn load_then_insert<W: TurnWords>(words: &W, turn: &mut Turn, num_hashes: u32, hashes: &[u64])
     requires { 8 ≤ (W.vector words.now).count }
-    ensures { All (WasSetInLine (W.vector words.now) num_hashes) hashes.now }
+    ensures { EachInTurn (WasSetInLine (W.vector words.now) num_hashes) hashes.now
+        turn.old turn.new }
 {
     touch_lines(&Loads::of(words), hashes);
-    insert_each(words, num_hashes, hashes);
+    insert_each(words, turn, num_hashes, hashes);
 }
 
 // Inserts each of these hashes, in order, 64 at a time: the ends of their lines are loaded first.
 #[inline(always)]
-fn insert_together<W: TurnWords>(words: &W, num_hashes: u32, hashes: &[u64])
+fn insert_together<W: TurnWords>(words: &W, turn: &mut Turn, num_hashes: u32, hashes: &[u64])
     requires { 8 ≤ (W.vector words.now).count }
-    ensures { All (WasSetInLine (W.vector words.now) num_hashes) hashes.now }
+    ensures { EachInTurn (WasSetInLine (W.vector words.now) num_hashes) hashes.now
+        turn.old turn.new }
 {
-    let turns = hashes.len() / LINES_TOGETHER;
-    'turns: for turn in 0..turns {
-        let at = LINES_TOGETHER * turn;
-        load_then_insert(words, num_hashes, &hashes[at..at + LINES_TOGETHER]);
+    let parts = hashes.len() / LINES_TOGETHER;
+    'parts: for part in 0..parts {
+        let at = LINES_TOGETHER * part;
+        load_then_insert(words, turn, num_hashes, &hashes[at..at + LINES_TOGETHER]);
     }
-    load_then_insert(words, num_hashes, &hashes[LINES_TOGETHER * turns..]);
+    load_then_insert(words, turn, num_hashes, &hashes[LINES_TOGETHER * parts..]);
 }
 
 /// Inserts each of these hashes, in order. Where the words are one mebibyte or more, the ends of
@@ -104,11 +123,12 @@ fn insert_together<W: TurnWords>(words: &W, num_hashes: u32, hashes: &[u64])
 #[inline(always)]
 pub fn insert_hashes<W: TurnWords>(words: &W, num_hashes: u32, hashes: &[u64])
     requires { 8 ≤ (W.vector words.now).count }
-    ensures { All (WasSetInLine (W.vector words.now) num_hashes) hashes.now }
+    ensures { WereSetInLines (W.vector words.now) num_hashes hashes.now }
 {
+    let mut turn = Turn::first();
     if words.len() >= WORDS_TO_READ_AHEAD {
-        insert_together(words, num_hashes, hashes);
+        insert_together(words, &mut turn, num_hashes, hashes);
     } else {
-        insert_each(words, num_hashes, hashes);
+        insert_each(words, &mut turn, num_hashes, hashes);
     }
 }

@@ -1,13 +1,15 @@
 //! The blocked Bloom filter that threads share, and change without waiting for one another.
-ghost use Rattle.std.specs.Prelude.{◌≡◌, ◌*◌, ◌≤◌, All, IfOk, IsOkUnless};
-ghost use Rattle.bloom_blocked.specs.SharedBlocked.{BeganAsLines, MakesInsertInLine, MakesLookUpInLine, WasInsertedInLine};
+ghost use Rattle.std.specs.Prelude.{◌≡◌, ◌*◌, ◌≤◌, IfOk, IsOkUnless};
+ghost use Rattle.bloom_blocked.specs.SharedBlocked.{BeganAsLines, MakesInsertInLine, MakesLookUpInLine, WereInsertedInLines};
+ghost use Rattle.bloom_blocked.specs.LineSteps.{SetsInTurn, WasSetInLine};
+ghost use Rattle.bloom_steps.specs.LiveSteps.{EachInTurn};
 
 mod items;
 mod sets;
 
 use crate::filter::BlockedBloomFilter;
 use crate::line;
-use bloom_parts::bit_vector::AtomicBitVec;
+use bloom_parts::bit_vector::{AtomicBitVec, Turn};
 use bloom_parts::error::FilterError;
 use bloom_parts::hasher::DefaultHasher;
 use std::alloc::Global;
@@ -104,16 +106,26 @@ impl<S> AtomicBlockedBloomFilter<S> {
         line::looks_in_line(&self.words.lent(), self.num_hashes, hash)
     }
 
-    // Loads the ends of the lines of all these hashes, and then inserts the hashes, in order.
-    fn load_then_insert(&self, hashes: &[u64])
-        ensures { All (WasInsertedInLine self.now) hashes.now }
+    // Sets all positions of a hash, from this turn on, and returns whether all were found set.
+    #[inline(always)]
+    fn insert_in_turn(&self, turn: &mut Turn, hash: u64) -> bool
+        ensures { SetsInTurn self.now.words self.now.hashes hash result turn.old turn.new }
     {
-        line::load_then_insert(&self.words.lent(), self.num_hashes, hashes);
+        line::set_in_turn(&self.words.lent(), turn, self.num_hashes, hash)
+    }
+
+    // Loads the ends of the lines of all these hashes, and then inserts the hashes, in order, from
+    // this turn on.
+    fn load_then_insert(&self, turn: &mut Turn, hashes: &[u64])
+        ensures { EachInTurn (WasSetInLine self.now.words self.now.hashes) hashes.now
+            turn.old turn.new }
+    {
+        line::load_then_insert(&self.words.lent(), turn, self.num_hashes, hashes);
     }
 
     /// Inserts hashes, in order.
     pub fn insert_hashes(&self, hashes: &[u64])
-        ensures { All (WasInsertedInLine self.now) hashes.now }
+        ensures { WereInsertedInLines self.now hashes.now }
     {
         line::insert_hashes(&self.words.lent(), self.num_hashes, hashes);
     }

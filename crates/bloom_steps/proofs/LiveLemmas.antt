@@ -5,7 +5,7 @@ use Rattle.bloom_parts.specs.Made.{SharedWords}
 use Rattle.bloom_steps.specs.declared.steps.vocabulary.Call.TheVariants.{Contains, Insert}
 use Rattle.bloom_steps.specs.declared.steps.vocabulary.End.TheVariants.{Done}
 use Rattle.bloom_steps.specs.declared.steps.vocabulary.Call.{Call}
-use Rattle.bloom_steps.specs.LiveSteps.{IsMade, Lent, MakesCallOn, MakesStep}
+use Rattle.bloom_steps.specs.LiveSteps.{EachInTurn, IsMade, Lent, MakesCallInTurn, MakesCallOn, MakesStep, WasInserted}
 use Rattle.bloom_steps.specs.Plans.{plan_of}
 use Rattle.bloom_steps.specs.Scripts.{Taken, Each, Linked, IsScript, IsLastEnd, Drives, answer_of, answer_of_end}
 
@@ -42,16 +42,20 @@ made-at words other first last (u ∷ us) made (suc i) t got =
 pub drives-call : (words other : SharedWords) (hashes : ℕ) (call : Call) (reply : Option Bool)
     (store after : Lent) → store.words ≡ words → store.other ≡ other
     → Drives MakesStep store.words.count hashes call store after reply
-    → MakesCallOn words other hashes call reply
+    → MakesCallInTurn words other hashes call reply store.turn after.turn
 drives-call words other hashes call reply store after is_words is_other drives = record {
-  taken = drives.taken;
-  script =
-      subst (λ (v : SharedWords). IsScript v.count hashes call drives.taken) is_words
-      drives.script;
-  first = store.turn;
-  last = after.turn;
-  made = steps-made words other drives.taken store after is_words is_other drives.linked;
-  answers = drives.answers;
+  did = record {
+    taken = drives.taken;
+    script =
+        subst (λ (v : SharedWords). IsScript v.count hashes call drives.taken) is_words
+        drives.script;
+    first = store.turn;
+    last = after.turn;
+    made = steps-made words other drives.taken store after is_words is_other drives.linked;
+    answers = drives.answers;
+  };
+  begins = refl;
+  ends = refl;
 }
 
 -- the last of some steps
@@ -120,3 +124,9 @@ call-silent words other hashes call reply calls ends = record {
   made = calls.made;
   answers = sym (silent calls.taken (λ i t got last. ends t (calls.script.last i t got last)));
 }
+
+-- one hash was inserted
+pub insert-one : (words : SharedWords) (k hash : ℕ) (reply : Bool) (first last : ℕ)
+    → MakesCallInTurn words words k (Insert hash) (Some reply) first last
+    → EachInTurn (WasInserted words k) (hash ∷ []) first last
+insert-one words k hash reply first last did = (last, (reply, did), refl)

@@ -5,8 +5,8 @@ use Rattle.bloom_parts.specs.Content.{bit_is_on}
 use Rattle.bloom_parts.specs.Made.{FoundByOr, made-in_turn}
 use Rattle.bloom_parts.specs.Places.{place}
 use Rattle.bloom_steps.specs.Scripts.{Any, answer_of_end}
-use Rattle.bloom_steps.specs.LiveSteps.{IsMade}
-use Rattle.fastbloom.specs.Shared.{SharedFilter, MakesInsert, WasInserted}
+use Rattle.bloom_steps.specs.LiveSteps.{IsMade, WasInserted}
+use Rattle.fastbloom.specs.Shared.{SharedFilter, MakesInsert}
 use Rattle.fastbloom.proofs.SharedFacts.{insert-turns-on-each}
 use Rattle.fastbloom.proofs.ScriptLemmas.{member}
 use Rattle.bloom_steps.proofs.LiveLemmas.{last-of, made-at}
@@ -70,7 +70,9 @@ module _ {S : Type 0} (f : SharedFilter S) (hash : ℕ) where
       otherwise false never = absurd (never refl)
 
   -- each place of a hash that was inserted was turned on
-  was-inserted : WasInserted f hash → (i : ℕ) → i < f.hashes
+  was-inserted : (first last : ℕ) → WasInserted f.words f.hashes hash first last → (i : ℕ)
+      → i < f.hashes
       → let p = place (64 * f.words.count) hash i in
       (found : ℕ) × FoundByOr f.words (p / 64) (2 ^ (p % 64)) found
-  was-inserted did i within = insert-turns-on-each f hash did.0 did.1 i within
+  was-inserted first last (reply, made) i within =
+      insert-turns-on-each f hash reply made.did i within

@@ -7,7 +7,7 @@ use Rattle.bloom_plain.specs.Builders.{RateStart, IsSizeOf, sized_filter, empty_
 use Rattle.bloom_plain.specs.Filter.{Filter}
 use Rattle.bloom_steps.specs.declared.steps.vocabulary.Call.{Call}
 use Rattle.bloom_steps.specs.declared.steps.vocabulary.Call.TheVariants.{Insert}
-use Rattle.bloom_steps.specs.LiveSteps.{MakesCallOn, TakesWordsOf}
+use Rattle.bloom_steps.specs.LiveSteps.{MakesCallOn, TakesWordsOf, WereInserted}
 use Rattle.bloom_steps.specs.Loaded.{WereLoaded}
 
 -- the vector of the words, the number of hashes, and the hasher
@@ -44,14 +44,11 @@ MakesCall f other call reply = MakesCallOn f.words other.words f.hashes call rep
 abbrev pub MakesInsert : {S : Type 0} → SharedFilter S → ℕ → Bool → Type 0
 MakesInsert f hash reply = MakesCall f f (Insert hash) (Some reply)
 
--- a hash was inserted, whatever the reply
-abbrev pub WasInserted : {S : Type 0} → SharedFilter S → ℕ → Type 0
-WasInserted f hash = (reply : Bool) × MakesInsert f hash reply
-
--- each item of a list was inserted by its hash under the hasher
+-- each item of a list was inserted by its hash under the hasher, by an insert of its own, in order
+-- and linked by turns
 abbrev pub MakesInserts : {S T : Type 0} → (S → T → ℕ) → SharedFilter S → List T → Type 0
 MakesInserts hash_of f items =
-    All (λ hash. (reply : Bool) × MakesInsert f hash reply) (map (hash_of f.hasher) items)
+    WereInserted f.words f.hashes (map (hash_of f.hasher) items)
 
 -- the words of a filter were taken out: they are what the steps of a take found, in order
 abbrev pub TakesWords : {S : Type 0} → SharedFilter S → List ℕ → Type 0

@@ -1,9 +1,9 @@
 -- What calls on lines of words that threads share tell: cases that hold, and cases that differ from
 -- one of these in one thing and don't hold.
-use Rattle.std.proofs.Common.{◌^◌, [], ◌∷◌, true, arith, lit<, lit≤}
+use Rattle.std.proofs.Common.{◌^◌, [], ◌∷◌, true, arith, lit<, lit≤, ℕ, subst, sym}
 use Rattle.bloom_parts.specs.Made.{SharedWords}
-use Rattle.fastbloom_c.specs.BlockedShared.{SetsInLines, TellsLooksInLines, TellsSetsInLines, WasSetInLine}
-use Rattle.bloom_blocked.specs.LineSteps.{LooksInLine, SetsInLine}
+use Rattle.fastbloom_c.specs.BlockedShared.{SetsInLines, TellsLooksInLines, TellsSetsInLines}
+use Rattle.bloom_blocked.specs.LineSteps.{LooksInLine, SetsInLine, WasSetInLine}
 use Rattle.bloom_parts.specs.Content.{content}
 use Rattle.fastbloom_c.specs.Passed.{MakeLines}
 
@@ -21,9 +21,12 @@ lines-part some = omega (arith, some.0)
 lines-past : MakeLines (2 ^ 58) → ⊥
 lines-past few = omega (arith, few.1)
 
--- each hash of a list was inserted, the last one too
-sets-each : (v : SharedWords) → SetsInLines v 1 (5 ∷ 6 ∷ []) → WasSetInLine v 1 6
-sets-each v made = made.each 1 0 (omega arith)
+-- each hash of a list was inserted, the last one too, from the turn to which the first led
+sets-each : (v : SharedWords) (made : SetsInLines v 1 (5 ∷ 6 ∷ []))
+    → (mid : ℕ) × WasSetInLine v 1 5 made.first mid × WasSetInLine v 1 6 mid made.last
+sets-each v made =
+    let (mid, one, (last, two, end)) = made.each in
+    (mid, one, subst (λ t. WasSetInLine v 1 6 mid t) (sym end) two)
 
 -- the second bit tells what the second look-up returned
 looks-second : (v : SharedWords) → TellsLooksInLines v 1 (5 ∷ 6 ∷ []) (2 ∷ [])

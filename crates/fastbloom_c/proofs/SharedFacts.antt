@@ -1,12 +1,13 @@
 -- What calls on words that threads share tell: cases that hold, and cases that differ from one of
 -- these in one thing and don't hold.
-use Rattle.std.proofs.Common.{◌≡◌, ◌^◌, ◌*◌, ◌==◌, ℕ, Bool, true, false, [], ◌∷◌, refl, sym, ap, arith, lit<}
+use Rattle.std.proofs.Common.{◌≡◌, ◌^◌, ◌*◌, ◌==◌, ℕ, Bool, true, false, [], ◌∷◌, refl, sym, ap, arith, lit<, subst}
 use Rattle.std.proofs.lemmas.Bool.{both_ways}
 use denote.RawPtr.{block_ptr}
 use Rattle.bloom_parts.specs.Content.{content}
 use Rattle.bloom_parts.specs.Made.{SharedWords}
 use Rattle.bloom_parts.proofs.PublishedLemmas.{content-zeros}
-use Rattle.fastbloom_c.specs.Shared.{MakesInsert, MakesInserts, MakesLook, TellsEach, TellsInserts, TellsLooks, WasInserted}
+use Rattle.bloom_steps.specs.LiveSteps.{WasInserted}
+use Rattle.fastbloom_c.specs.Shared.{MakesInsert, MakesInserts, MakesLook, TellsEach, TellsInserts, TellsLooks}
 use Rattle.fastbloom_c.specs.Passed.{MakeFilter, vector_of}
 
 -- one word makes a filter, and so does the greatest number
@@ -59,9 +60,12 @@ tells-past : TellsEach IsFive (5 ∷ []) (3 ∷ []) → ⊥
 unfolding content
 tells-past told = both_ways false refl (sym (told.rest 1 (omega arith)))
 
--- each hash of a list was inserted, the last one too
-inserts-each : (v : SharedWords) → MakesInserts v 1 (5 ∷ 6 ∷ []) → WasInserted v 1 6
-inserts-each v made = made.each 1 0 (omega arith)
+-- each hash of a list was inserted, the last one too, from the turn to which the first led
+inserts-each : (v : SharedWords) (made : MakesInserts v 1 (5 ∷ 6 ∷ []))
+    → (mid : ℕ) × WasInserted v 1 5 made.first mid × WasInserted v 1 6 mid made.last
+inserts-each v made =
+    let (mid, one, (last, two, end)) = made.each in
+    (mid, one, subst (λ t. WasInserted v 1 6 mid t) (sym end) two)
 
 -- no hash was looked up, and no bit is set
 looks-none : (v : SharedWords) → TellsLooks v 1 [] (0 ∷ [])

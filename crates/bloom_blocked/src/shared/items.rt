@@ -8,6 +8,7 @@ ghost use Rattle.bloom_blocked.specs.SharedBlocked.{MakesInsertInLine, MakesInse
 
 use super::AtomicBlockedBloomFilter;
 use crate::many::{LINES_TOGETHER, WORDS_TO_READ_AHEAD};
+use bloom_parts::bit_vector::Turn;
 use bloom_plain::queue::{TakesHashes, insert_items};
 use std::hash::{BuildHasher, Hash, Hasher};
 
@@ -87,35 +88,52 @@ impl<S: BuildHasher> AtomicBlockedBloomFilter<S> {
             × WholeRun I.IntoIter.next_gives it (λ run. MakesInsertsInLines
             (source_hash_of S.BuildHasher S.Hasher.Hasher T.hash_input) self.now run.items) }
     {
-        let mut filter = self;
-        insert_items(&mut filter, iter);
+        let mut inserts = Inserts {
+            filter: self,
+            turn: Turn::first(),
+        };
+        insert_items(&mut inserts, iter);
     }
 }
 
-impl<'a, S: BuildHasher> TakesHashes for &'a AtomicBlockedBloomFilter<S> {
-    ghost use Rattle.std.specs.Prelude.{◌≡◌, All};
+// Inserts into a filter, one after the other: each begins in the turn to which the one before led.
+#[derive(Drop)]
+struct Inserts<'a, S> {
+    filter: &'a AtomicBlockedBloomFilter<S>,
+    turn: Turn,
+}
+
+impl<'a, S: BuildHasher> TakesHashes for Inserts<'a, S> {
+    ghost use Rattle.std.specs.Prelude.{◌≡◌};
     ghost use Rattle.std.proofs.Common.{ap, refl, ◌∙◌, subst};
-    ghost use Rattle.std.proofs.lemmas.List.Elements.{All-nil, All-append};
     ghost use Rattle.bloom_plain.specs.SourceHash.{hash_by};
-    ghost use Rattle.bloom_blocked.specs.SharedBlocked.{WasInsertedInLine};
+    ghost use Rattle.bloom_steps.specs.LiveSteps.{EachInTurn};
+    ghost use Rattle.bloom_steps.proofs.EachLemmas.{each-append};
+    ghost use Rattle.bloom_blocked.specs.LineSteps.{WasSetInLine};
 
-    ghost took = { λ old hashes new. (new ≡ old) × All (WasInsertedInLine old.now) hashes };
+    ghost took = { λ old hashes new. (new.filter ≡ old.filter)
+        × EachInTurn (WasSetInLine old.filter.now.words old.filter.now.hashes) hashes
+        old.turn new.turn };
 
-    ghost hash_of = { λ f writes. hash_by S.Hasher.Hasher (S.build_hasher f.now.hasher) writes };
+    ghost hash_of = { λ f writes.
+        hash_by S.Hasher.Hasher (S.build_hasher f.filter.now.hasher) writes };
 
-    ghost none = { λ f. (refl, All-nil (WasInsertedInLine f.now)) };
+    ghost none = { λ f. (refl, refl) };
 
     ghost join = { λ x y z xs ys first second. (
       second.0 ∙ first.0,
-      All-append (WasInsertedInLine x.now) xs ys first.1
-          (subst (λ f. All (WasInsertedInLine f.now) ys) first.0 second.1),
+      each-append (WasSetInLine x.filter.now.words x.filter.now.hashes) xs ys x.turn y.turn z.turn
+          first.1
+          (subst (λ f. EachInTurn (WasSetInLine f.now.words f.now.hashes) ys y.turn z.turn) first.0
+          second.1),
     ) };
 
     ghost keeps = { λ x y xs writes did.
         ap (λ f. hash_by S.Hasher.Hasher (S.build_hasher f.now.hasher) writes) did.0 };
 
     fn num_together(&self) -> usize {
-        if self.words.len() >= WORDS_TO_READ_AHEAD {
+        let filter = self.filter;
+        if filter.words.len() >= WORDS_TO_READ_AHEAD {
             LINES_TOGETHER
         } else {
             1
@@ -124,15 +142,15 @@ impl<'a, S: BuildHasher> TakesHashes for &'a AtomicBlockedBloomFilter<S> {
 
     #[inline(always)]
     fn hash_item<T: Hash>(&self, val: &T) -> u64 {
-        self.source_hash(val)
+        self.filter.source_hash(val)
     }
 
     #[inline(always)]
     fn insert_one(&mut self, hash: u64) {
-        self.insert_hash(hash);
+        self.filter.insert_in_turn(&mut self.turn, hash);
     }
 
     fn insert_many(&mut self, hashes: &[u64]) {
-        self.load_then_insert(hashes);
+        self.filter.load_then_insert(&mut self.turn, hashes);
     }
 }

@@ -1,7 +1,7 @@
 //! Calls on words that threads share, each made of atomic operations on single words.
-ghost use Rattle.std.specs.Prelude.{◌≡◌, ◌≤◌, length, All, Some, None};
+ghost use Rattle.std.specs.Prelude.{◌≡◌, ◌≤◌, length, Some, None};
 ghost use Rattle.bloom_steps.specs.declared.steps.vocabulary.Call.TheVariants as call;
-ghost use Rattle.bloom_steps.specs.LiveSteps.{MakesCallOn, TakesWordsOf, WasInserted};
+ghost use Rattle.bloom_steps.specs.LiveSteps.{EachInTurn, MakesCallInTurn, MakesCallOn, TakesWordsOf, WasInserted, WereInserted};
 ghost use Rattle.bloom_steps.specs.Loaded.{CountsLoaded, WereLoaded};
 
 use super::driver::drive;
@@ -10,16 +10,42 @@ use super::vocabulary::Call;
 use bloom_parts::bit_vector::{Loads, Turn, TurnWords, next_place};
 use bloom_parts::hasher::DoubleHasher;
 use bloom_parts::slices::{HASHES_TOGETHER, WORDS_BEYOND_CACHE};
+use std::mem;
 
-/// Makes all steps of a call on all words, in order, and returns the call's reply.
+/// Makes all steps of a call on all words, in order, from this turn on, and returns the call's
+/// reply.
 #[inline(always)]
-fn make<W: TurnWords>(words: &W, other: &W, call: Call, num_hashes: u32) -> Option<bool>
+fn make<W: TurnWords>(
+    words: &W,
+    other: &W,
+    turn: &mut Turn,
+    call: Call,
+    num_hashes: u32,
+) -> Option<bool>
     requires alike { (W.vector other.now).count ≡ (W.vector words.now).count }
     requires hashes { 1 ≤ num_hashes }
-    ensures { MakesCallOn (W.vector words.now) (W.vector other.now) num_hashes call result }
+    ensures { MakesCallInTurn (W.vector words.now) (W.vector other.now) num_hashes call result
+        turn.old turn.new }
 {
-    let mut store = SpanStore::new(words, other, 0, words.len());
-    drive(&mut store, call, num_hashes)
+    let first = mem::replace(turn, Turn::first());
+    let mut store = SpanStore::new(words, other, 0, words.len(), first);
+    let reply = drive(&mut store, call, num_hashes);
+    *turn = store.into_turn();
+    reply
+}
+
+/// Sets all positions of a hash, from this turn on, and returns whether its own steps found all of
+/// them set already.
+#[inline(always)]
+pub fn insert_in_turn<W: TurnWords>(words: &W, turn: &mut Turn, num_hashes: u32, hash: u64) -> bool
+    requires { 1 ≤ num_hashes }
+    ensures { let vector = W.vector words.now in MakesCallInTurn vector vector num_hashes
+        (call.Insert hash) (Some result) turn.old turn.new }
+{
+    match make(words, words, turn, Call::Insert(hash), num_hashes) {
+        Some(all_on) => all_on,
+        None => unreachable!(),
+    }
 }
 
 /// Sets all positions of a hash, and returns whether its own steps found all of them set already.
@@ -29,10 +55,7 @@ pub fn insert_hash<W: TurnWords>(words: &W, num_hashes: u32, hash: u64) -> bool
     ensures { let vector = W.vector words.now in
         MakesCallOn vector vector num_hashes (call.Insert hash) (Some result) }
 {
-    match make(words, words, Call::Insert(hash), num_hashes) {
-        Some(all_on) => all_on,
-        None => unreachable!(),
-    }
+    insert_in_turn(words, &mut Turn::first(), num_hashes, hash)
 }
 
 /// Whether all positions of a hash were found set, one after the other, up to the first that isn't.
@@ -42,7 +65,13 @@ pub fn contains_hash<W: TurnWords>(words: &W, num_hashes: u32, hash: u64) -> boo
     ensures { let vector = W.vector words.now in
         MakesCallOn vector vector num_hashes (call.Contains hash) (Some result) }
 {
-    match make(words, words, Call::Contains(hash), num_hashes) {
+    match make(
+        words,
+        words,
+        &mut Turn::first(),
+        Call::Contains(hash),
+        num_hashes,
+    ) {
         Some(all_on) => all_on,
         None => unreachable!(),
     }
@@ -59,42 +88,45 @@ fn touch<W: TurnWords>(words: &Loads<'_, W>, num_hashes: u32, hash: u64) {
     }
 }
 
-// Inserts each of these hashes, in order.
+// Inserts each of these hashes, in order, from this turn on.
 #[inline(always)]
-fn insert_each<W: TurnWords>(words: &W, num_hashes: u32, hashes: &[u64])
+fn insert_each<W: TurnWords>(words: &W, turn: &mut Turn, num_hashes: u32, hashes: &[u64])
     requires { 1 ≤ num_hashes }
-    ensures { All (WasInserted (W.vector words.now) num_hashes) hashes.now }
+    ensures { EachInTurn (WasInserted (W.vector words.now) num_hashes) hashes.now
+        turn.old turn.new }
 {
     'hashes: for hash in hashes {
-        insert_hash(words, num_hashes, *hash);
+        insert_in_turn(words, turn, num_hashes, *hash);
     }
 }
 
 /// Loads the words of each of these hashes, so that memory fetches them side by side, and then
-/// inserts the hashes, in order.
+/// inserts the hashes, in order, from this turn on.
 #[inline(always)]
-pub fn load_then_insert<W: TurnWords>(words: &W, num_hashes: u32, hashes: &[u64])
+pub fn load_then_insert<W: TurnWords>(words: &W, turn: &mut Turn, num_hashes: u32, hashes: &[u64])
     requires { 1 ≤ num_hashes }
-    ensures { All (WasInserted (W.vector words.now) num_hashes) hashes.now }
+    ensures { EachInTurn (WasInserted (W.vector words.now) num_hashes) hashes.now
+        turn.old turn.new }
 {
     'touches: for hash in hashes {
         touch(&Loads::of(words), num_hashes, *hash);
     }
-    insert_each(words, num_hashes, hashes);
+    insert_each(words, turn, num_hashes, hashes);
 }
 
 // Inserts each of these hashes, in order, sixteen at a time: their words are loaded first.
 #[inline(always)]
-fn insert_together<W: TurnWords>(words: &W, num_hashes: u32, hashes: &[u64])
+fn insert_together<W: TurnWords>(words: &W, turn: &mut Turn, num_hashes: u32, hashes: &[u64])
     requires { 1 ≤ num_hashes }
-    ensures { All (WasInserted (W.vector words.now) num_hashes) hashes.now }
+    ensures { EachInTurn (WasInserted (W.vector words.now) num_hashes) hashes.now
+        turn.old turn.new }
 {
-    let turns = hashes.len() / HASHES_TOGETHER;
-    'turns: for turn in 0..turns {
-        let at = HASHES_TOGETHER * turn;
-        load_then_insert(words, num_hashes, &hashes[at..at + HASHES_TOGETHER]);
+    let parts = hashes.len() / HASHES_TOGETHER;
+    'parts: for part in 0..parts {
+        let at = HASHES_TOGETHER * part;
+        load_then_insert(words, turn, num_hashes, &hashes[at..at + HASHES_TOGETHER]);
     }
-    insert_each(words, num_hashes, &hashes[HASHES_TOGETHER * turns..]);
+    insert_each(words, turn, num_hashes, &hashes[HASHES_TOGETHER * parts..]);
 }
 
 /// Inserts each of these hashes, in order. Where the words are larger than a cache, those of
@@ -102,12 +134,13 @@ fn insert_together<W: TurnWords>(words: &W, num_hashes: u32, hashes: &[u64])
 #[inline(always)]
 pub fn insert_hashes<W: TurnWords>(words: &W, num_hashes: u32, hashes: &[u64])
     requires { 1 ≤ num_hashes }
-    ensures { All (WasInserted (W.vector words.now) num_hashes) hashes.now }
+    ensures { WereInserted (W.vector words.now) num_hashes hashes.now }
 {
+    let mut turn = Turn::first();
     if words.len() >= WORDS_BEYOND_CACHE {
-        insert_together(words, num_hashes, hashes);
+        insert_together(words, &mut turn, num_hashes, hashes);
     } else {
-        insert_each(words, num_hashes, hashes);
+        insert_each(words, &mut turn, num_hashes, hashes);
     }
 }
 
@@ -118,7 +151,7 @@ pub fn clear<W: TurnWords>(words: &W, num_hashes: u32)
     ensures { let vector = W.vector words.now in
         MakesCallOn vector vector num_hashes call.Clear None }
 {
-    make(words, words, Call::Clear, num_hashes);
+    make(words, words, &mut Turn::first(), Call::Clear, num_hashes);
 }
 
 /// Sets what is found set in the other words, one word after the other.
@@ -128,7 +161,7 @@ pub fn union<W: TurnWords>(words: &W, other: &W, num_hashes: u32)
     requires hashes { 1 ≤ num_hashes }
     ensures { MakesCallOn (W.vector words.now) (W.vector other.now) num_hashes call.Union None }
 {
-    make(words, other, Call::Union, num_hashes);
+    make(words, other, &mut Turn::first(), Call::Union, num_hashes);
 }
 
 /// Clears what is found clear in the other words, one word after the other.
@@ -139,7 +172,13 @@ pub fn intersect<W: TurnWords>(words: &W, other: &W, num_hashes: u32)
     ensures { MakesCallOn (W.vector words.now) (W.vector other.now) num_hashes call.Intersect
         None }
 {
-    make(words, other, Call::Intersect, num_hashes);
+    make(
+        words,
+        other,
+        &mut Turn::first(),
+        Call::Intersect,
+        num_hashes,
+    );
 }
 
 /// Takes the words out, word 0 first, each into the number with its index. Each word is read and

@@ -37,9 +37,10 @@ impl<'a, W: TurnWords> Model for SpanStore<'a, W> {
 impl<'a, W: TurnWords> SpanStore<'a, W> {
     ghost use Rattle.std.specs.Prelude.{◌≡◌, ◌+◌, ◌≤◌};
 
-    /// The store that lends this many words of two vectors of equal length, from a word on.
+    /// The store that lends this many words of two vectors of equal length, from a word on. Its
+    /// first step is made in this turn.
     #[inline(always)]
-    pub fn new(words: &'a W, other: &'a W, start: usize, count: usize) -> Self
+    pub fn new(words: &'a W, other: &'a W, start: usize, count: usize, turn: Turn) -> Self
         requires alike { (W.vector other.now).count ≡ (W.vector words.now).count }
         requires some { 1 ≤ count }
         requires within { start + count ≤ (W.vector words.now).count }
@@ -47,6 +48,7 @@ impl<'a, W: TurnWords> SpanStore<'a, W> {
         ensures other { result.lent.other ≡ W.vector other.now }
         ensures start { result.start ≡ start }
         ensures count { result.count ≡ count }
+        ensures turn { result.lent.turn ≡ turn }
     {
         let _count = words.len();
         SpanStore {
@@ -54,8 +56,17 @@ impl<'a, W: TurnWords> SpanStore<'a, W> {
             other,
             start,
             count,
-            turn: Turn::first(),
+            turn,
         }
+    }
+
+    /// The turn of the step that would come next.
+    #[inline(always)]
+    pub fn into_turn(self) -> Turn
+        ensures { result ≡ self.entry.lent.turn }
+    {
+        let SpanStore { turn, .. } = self;
+        turn
     }
 }
 

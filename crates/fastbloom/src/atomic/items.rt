@@ -1,15 +1,17 @@
 //! The calls that take items: those of their source hashes. Many items are inserted together into a
 //! filter that is larger than a cache: a step that changes a word waits for that word, so the words
 //! are loaded before the first insert.
-ghost use Rattle.std.specs.Prelude.{◌≡◌, ℕ, List, Some, IsTrue, All};
+ghost use Rattle.std.specs.Prelude.{◌≡◌, ℕ, List, Some, IsTrue};
 ghost use Rattle.std.specs.List.{concat};
 ghost use Rattle.std.specs.Iterator.{IsFiniteIterable};
 ghost use Rattle.std.specs.Iterator.Runs.{WholeRun};
-ghost use Rattle.bloom_steps.specs.declared.steps.vocabulary.Call.TheVariants.{Contains};
-ghost use Rattle.fastbloom.specs.Shared.{MakesCall, MakesInsert, MakesInserts, WasInserted};
+ghost use Rattle.bloom_steps.specs.declared.steps.vocabulary.Call.TheVariants.{Contains, Insert};
+ghost use Rattle.bloom_steps.specs.LiveSteps.{EachInTurn, MakesCallInTurn, WasInserted};
+ghost use Rattle.fastbloom.specs.Shared.{MakesCall, MakesInsert, MakesInserts};
 ghost use Rattle.bloom_plain.specs.SourceHash.{source_hash_of, lent_hash_of, IsFunctionOfBytes};
 
 use super::AtomicBloomFilter;
+use bloom_parts::bit_vector::Turn;
 use bloom_parts::slices::{HASHES_TOGETHER, WORDS_BEYOND_CACHE};
 use bloom_plain::queue::{TakesHashes, insert_items};
 use bloom_steps::calls;
@@ -91,44 +93,71 @@ impl<S: BuildHasher> AtomicBloomFilter<S> {
             × WholeRun I.IntoIter.next_gives it (λ run. MakesInserts
             (source_hash_of S.BuildHasher S.Hasher.Hasher T.hash_input) self.now run.items) }
     {
-        let mut filter = self;
-        insert_items(&mut filter, iter);
+        let mut inserts = Inserts {
+            filter: self,
+            turn: Turn::first(),
+        };
+        insert_items(&mut inserts, iter);
     }
 }
 
 impl<S> AtomicBloomFilter<S> {
-    // Loads the words of all these hashes, and then inserts the hashes, in order.
-    fn load_then_insert(&self, hashes: &[u64])
-        ensures { All (WasInserted self.now) hashes.now }
+    // Sets all positions of a hash, from this turn on, and returns whether all were found set.
+    #[inline(always)]
+    fn insert_in_turn(&self, turn: &mut Turn, hash: u64) -> bool
+        ensures { MakesCallInTurn self.now.words self.now.words self.now.hashes (Insert hash)
+            (Some result) turn.old turn.new }
     {
-        calls::load_then_insert(&self.words.lent(), self.num_hashes, hashes);
+        calls::insert_in_turn(&self.words.lent(), turn, self.num_hashes, hash)
+    }
+
+    // Loads the words of all these hashes, and then inserts the hashes, in order, from this turn
+    // on.
+    fn load_then_insert(&self, turn: &mut Turn, hashes: &[u64])
+        ensures { EachInTurn (WasInserted self.now.words self.now.hashes) hashes.now
+            turn.old turn.new }
+    {
+        calls::load_then_insert(&self.words.lent(), turn, self.num_hashes, hashes);
     }
 }
 
-impl<'a, S: BuildHasher> TakesHashes for &'a AtomicBloomFilter<S> {
-    ghost use Rattle.std.specs.Prelude.{◌≡◌, All};
+// Inserts into a filter, one after the other: each begins in the turn to which the one before led.
+#[derive(Drop)]
+struct Inserts<'a, S> {
+    filter: &'a AtomicBloomFilter<S>,
+    turn: Turn,
+}
+
+impl<'a, S: BuildHasher> TakesHashes for Inserts<'a, S> {
+    ghost use Rattle.std.specs.Prelude.{◌≡◌};
     ghost use Rattle.std.proofs.Common.{ap, refl, ◌∙◌, subst};
-    ghost use Rattle.std.proofs.lemmas.List.Elements.{All-nil, All-append};
     ghost use Rattle.bloom_plain.specs.SourceHash.{hash_by};
-    ghost use Rattle.fastbloom.specs.Shared.{WasInserted};
+    ghost use Rattle.bloom_steps.specs.LiveSteps.{EachInTurn, WasInserted};
+    ghost use Rattle.bloom_steps.proofs.EachLemmas.{each-append};
 
-    ghost took = { λ old hashes new. (new ≡ old) × All (WasInserted old.now) hashes };
+    ghost took = { λ old hashes new. (new.filter ≡ old.filter)
+        × EachInTurn (WasInserted old.filter.now.words old.filter.now.hashes) hashes
+        old.turn new.turn };
 
-    ghost hash_of = { λ f writes. hash_by S.Hasher.Hasher (S.build_hasher f.now.hasher) writes };
+    ghost hash_of = { λ f writes.
+        hash_by S.Hasher.Hasher (S.build_hasher f.filter.now.hasher) writes };
 
-    ghost none = { λ f. (refl, All-nil (WasInserted f.now)) };
+    ghost none = { λ f. (refl, refl) };
 
     ghost join = { λ x y z xs ys first second. (
       second.0 ∙ first.0,
-      All-append (WasInserted x.now) xs ys first.1
-          (subst (λ f. All (WasInserted f.now) ys) first.0 second.1),
+      each-append (WasInserted x.filter.now.words x.filter.now.hashes) xs ys x.turn y.turn z.turn
+          first.1
+          (subst (λ f. EachInTurn (WasInserted f.now.words f.now.hashes) ys y.turn z.turn) first.0
+          second.1),
     ) };
 
     ghost keeps = { λ x y xs writes did.
         ap (λ f. hash_by S.Hasher.Hasher (S.build_hasher f.now.hasher) writes) did.0 };
 
     fn num_together(&self) -> usize {
-        if self.words.len() >= WORDS_BEYOND_CACHE {
+        let filter = self.filter;
+        if filter.words.len() >= WORDS_BEYOND_CACHE {
             HASHES_TOGETHER
         } else {
             1
@@ -137,15 +166,15 @@ impl<'a, S: BuildHasher> TakesHashes for &'a AtomicBloomFilter<S> {
 
     #[inline(always)]
     fn hash_item<T: Hash>(&self, val: &T) -> u64 {
-        self.source_hash(val)
+        self.filter.source_hash(val)
     }
 
     #[inline(always)]
     fn insert_one(&mut self, hash: u64) {
-        self.insert_hash(hash);
+        self.filter.insert_in_turn(&mut self.turn, hash);
     }
 
     fn insert_many(&mut self, hashes: &[u64]) {
-        self.load_then_insert(hashes);
+        self.filter.load_then_insert(&mut self.turn, hashes);
     }
 }

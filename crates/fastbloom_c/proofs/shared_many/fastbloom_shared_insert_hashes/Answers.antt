@@ -1,7 +1,6 @@
 use Rattle.std.proofs.Common.{◌≡◌, ◌∙◌, max, ap, rules, subst}
-use Rattle.std.specs.List.{All}
 use Rattle.fastbloom_c.specs.Passed.{vector_of}
-use Rattle.fastbloom_c.specs.Shared.{WasInserted}
+use Rattle.bloom_steps.specs.LiveSteps.{WereInserted}
 use Rattle.fastbloom_c.proofs.shared_many.fastbloom_shared_insert_hashes.Goals as goal
 
 pub returns-clause-made : goal.returns-clause-made
@@ -13,8 +12,5 @@ returns-clause-made c = λ _.
     c.new-lent.ensures
     ∙ ap (λ at. vector_of at c.shared-words.result.len) c.shared-words.ensures.at
     ∙ ap (vector_of words.at) c.shared-words.ensures.len in
-    record {
-      each =
-          subst (λ v. All (WasInserted v (max 1 c.args.num_hashes)) hashes) vector
-          (subst (λ n. All (WasInserted c.new-lent.result n) hashes) k c.insert_hashes.ensures);
-    }
+    subst (λ v. WereInserted v (max 1 c.args.num_hashes) hashes) vector
+    (subst (λ n. WereInserted c.new-lent.result n hashes) k c.insert_hashes.ensures)
