@@ -228,6 +228,7 @@ twins-false course =
     no-turn (suc (suc (suc zero))) p l u d x f e on =
         let (inw, set, off) =
         or-only (twins false) (twins-carried false) 3 1 0 1 1 (Answer false) refl p on in
-        let found = or-found (twins false) (twins-carried false) 3 1 0 1 1 (Answer false) refl p inw in
+        let found =
+        or-found (twins false) (twins-carried false) 3 1 0 1 1 (Answer false) refl p inw in
         both_ways (bit_is_on 1 p) (found ∙ off) set
     no-turn (suc (suc (suc (suc m)))) p l u d x f e on = omega (arith, u)

@@ -29,7 +29,8 @@ is-position lines k hash i below =
     let same : 512 * line_of lines hash + q ≡ 64 * (8 * line_of lines hash) + q = omega arith in (
       here,
       sym (ap (line_positions lines k hash) same)
-          ∙ moved lines k hash q (place-below 512 (inner_of hash) i (lit< tt) (inner-fits hash)) here,
+          ∙ moved lines k hash q (place-below 512 (inner_of hash) i (lit< tt) (inner-fits hash))
+          here,
     )
 
 -- a course of a blocked filter

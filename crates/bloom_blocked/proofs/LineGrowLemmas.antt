@@ -35,14 +35,17 @@ module _ (lines k : ℕ) (run : Course) (course : IsLineCourse lines k run) wher
     calm m p (Did party did found ended) g on =
         let of = each m party ended (record { step = did; found = found; here = g }) in
         by of.call of.passes
-        (kind-of lines k run course of.call party of.began of.last m of.ended of.finished of.later of.upto
+        (kind-of lines k run course of.call party of.began of.last m of.ended of.finished
+        of.later of.upto
         (record { step = did; found = found; ended = ended }) g)
       where
-        by : (call : Call) → goes_by_hash (plan_of call) ≡ true → StepKind lines k run course call did
-            → moment run (m + 1) p ≡ true
+        by : (call : Call) → goes_by_hash (plan_of call) ≡ true
+            → StepKind lines k run course call did → moment run (m + 1) p ≡ true
         by (Insert hash) passes (w, mask, is, part) =
-            on-or lines k run course m p on party (8 * line_of lines hash + w) mask found did ended is g
-        by (Contains hash) passes (i, is) = on-load lines k run course m p on party i found did ended is g
+            on-or lines k run course m p on party (8 * line_of lines hash + w) mask found did ended
+            is g
+        by (Contains hash) passes (i, is) =
+            on-load lines k run course m p on party i found did ended is g
         by Clear passes kind = absurd (both_ways false refl passes)
         by Union passes kind = absurd (both_ways false refl passes)
         by Intersect passes kind = absurd (both_ways false refl passes)
@@ -65,7 +68,8 @@ module _ (lines k : ℕ) (run : Course) (course : IsLineCourse lines k run) wher
     set-by m p (Did party did found ended) g sets =
         let of = each m party ended (record { step = did; found = found; here = g }) in
         by of.call of.passes of.began of.last of.ended of.finished
-        (kind-of lines k run course of.call party of.began of.last m of.ended of.finished of.later of.upto
+        (kind-of lines k run course of.call party of.began of.last m of.ended of.finished
+        of.later of.upto
         (record { step = did; found = found; ended = ended }) g)
       where
         by : (call : Call) → goes_by_hash (plan_of call) ≡ true → (began last : ℕ) (end : End)

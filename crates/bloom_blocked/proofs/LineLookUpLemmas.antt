@@ -36,65 +36,65 @@ module _ (run : Course) (made : CarriedOut run.start run.records run.words) (k h
       (64 * start + q) inw
 
   -- a finished look-up
-  module _ (call : Call) (answer : Bool) (fin : IsFinished run party call began last (Answer answer))
-    where
-      -- its last step
-      pub last-look : IsLastOf run party last start inside (Answer answer)
-      last-look = last-of run party call began last (Answer answer) fin start inside own is.running
+  module _ (call : Call) (answer : Bool)
+      (fin : IsFinished run party call began last (Answer answer)) where
+    -- its last step
+    pub last-look : IsLastOf run party last start inside (Answer answer)
+    last-look = last-of run party call began last (Answer answer) fin start inside own is.running
 
-      -- it returns the last bit that it looked at
-      last-bit : answer ≡ bit_is_on last-look.t.found (place 512 hash last-look.i)
-      last-bit =
-          same-answer answer _
-          (sym last-look.ends
-          ∙ is.last last-look.i last-look.t last-look.here last-look.closes last-look.i last-look.t
-          last-look.here last-look.closes)
+    -- it returns the last bit that it looked at
+    last-bit : answer ≡ bit_is_on last-look.t.found (place 512 hash last-look.i)
+    last-bit =
+        same-answer answer _
+        (sym last-look.ends
+        ∙ is.last last-look.i last-look.t last-look.here last-look.closes last-look.i last-look.t
+        last-look.here last-look.closes)
 
-      -- it returns the bit that it looked at last, as it was before its last step
-      pub last-tells : answer ≡ moment run last (64 * start + place 512 hash last-look.i)
-      last-tells = last-bit ∙ looked last-look.i last-look.t last-look.here last last-look.at
+    -- it returns the bit that it looked at last, as it was before its last step
+    pub last-tells : answer ≡ moment run last (64 * start + place 512 hash last-look.i)
+    last-tells = last-bit ∙ looked last-look.i last-look.t last-look.here last last-look.at
 
-      -- it looked at one of the positions last
-      pub last-below : last-look.i < k
-      last-below =
-          let closes = last-look.closes in
-          let count = is.count in
-          omega arith
+    -- it looked at one of the positions last
+    pub last-below : last-look.i < k
+    last-below =
+        let closes = last-look.closes in
+        let count = is.count in
+        omega arith
 
-      -- where it returns true, each position was found set by a record
-      pub found-on : answer ≡ true → (i : ℕ) → i < k
-          → (m : ℕ) × (began < m) × (m ≤ last)
-          × (moment run m (64 * start + place 512 hash i) ≡ true)
-      found-on hit i below =
-          let closes = last-look.closes in
-          let reached : k ≤ length inside = elim (eqb_tells k (length inside)) [
-            | inl y ↦ let same = y.1 in omega arith
-            | inr n ↦
-                let apart = n.1 in
-                let count = is.count in
-                let off =
-                is.stops.early last-look.i last-look.t last-look.here closes (omega arith) in
-                absurd (both_ways answer (last-bit ∙ off) hit)
-          ] in
-          let (t, g) = some_member inside i (omega arith) in
-          let at =
-          record-of run party began last (map (taken_from start) inside) own i
-          (taken_from start t) (map-get (taken_from start) inside i t g) in
-          let on : bit_is_on t.found (place 512 hash i) ≡ true =
-          elim (eqb_tells (i + 1) (length inside)) [
-            | inl y ↦
-                let end = y.1 in
-                let same : last-look.i ≡ i = omega arith in
-                let member : last-look.t ≡ t =
-                same_Some _ _ (sym last-look.here ∙ ap (slice_get inside) same ∙ g) in
-                sym (ap (λ (u : Taken). bit_is_on u.found (place 512 hash i)) member)
-                ∙ sym (ap (λ j. bit_is_on last-look.t.found (place 512 hash j)) same)
-                ∙ sym last-bit ∙ hit
-            | inr n ↦
-                let apart = n.1 in
-                let within = slice_get_within inside i t g in
-                is.stops.earlier i t g (omega arith)
-          ] in
-          let was : bit_is_on t.found (place 512 hash i)
-          ≡ moment run at.m (64 * start + place 512 hash i) = looked i t g at.m at.is in
-          (at.m, at.later, at.upto, sym was ∙ on)
+    -- where it returns true, each position was found set by a record
+    pub found-on : answer ≡ true → (i : ℕ) → i < k
+        → (m : ℕ) × (began < m) × (m ≤ last)
+        × (moment run m (64 * start + place 512 hash i) ≡ true)
+    found-on hit i below =
+        let closes = last-look.closes in
+        let reached : k ≤ length inside = elim (eqb_tells k (length inside)) [
+          | inl y ↦ let same = y.1 in omega arith
+          | inr n ↦
+              let apart = n.1 in
+              let count = is.count in
+              let off =
+              is.stops.early last-look.i last-look.t last-look.here closes (omega arith) in
+              absurd (both_ways answer (last-bit ∙ off) hit)
+        ] in
+        let (t, g) = some_member inside i (omega arith) in
+        let at =
+        record-of run party began last (map (taken_from start) inside) own i
+        (taken_from start t) (map-get (taken_from start) inside i t g) in
+        let on : bit_is_on t.found (place 512 hash i) ≡ true =
+        elim (eqb_tells (i + 1) (length inside)) [
+          | inl y ↦
+              let end = y.1 in
+              let same : last-look.i ≡ i = omega arith in
+              let member : last-look.t ≡ t =
+              same_Some _ _ (sym last-look.here ∙ ap (slice_get inside) same ∙ g) in
+              sym (ap (λ (u : Taken). bit_is_on u.found (place 512 hash i)) member)
+              ∙ sym (ap (λ j. bit_is_on last-look.t.found (place 512 hash j)) same)
+              ∙ sym last-bit ∙ hit
+          | inr n ↦
+              let apart = n.1 in
+              let within = slice_get_within inside i t g in
+              is.stops.earlier i t g (omega arith)
+        ] in
+        let was : bit_is_on t.found (place 512 hash i)
+        ≡ moment run at.m (64 * start + place 512 hash i) = looked i t g at.m at.is in
+        (at.m, at.later, at.upto, sym was ∙ on)

@@ -37,17 +37,21 @@ module _ (lines k : ℕ) (run : Course) (course : IsLineCourse lines k run) wher
       → slice_get run.records m ≡ Some r → moment run m p ≡ true
       → moment run (m + 1) p ≡ false → IsTakenSince run m p
   taken-by each m p (Began party call) g on off =
-      absurd (both_ways (moment run (m + 1) p) off (on-began lines k run course m p on party call g))
+      absurd (both_ways (moment run (m + 1) p) off
+      (on-began lines k run course m p on party call g))
   taken-by each m p (Did party did found ended) g on off =
       let of = each m party ended (record { step = did; found = found; here = g }) in
       by of.call of.passes
-      (kind-of lines k run course of.call party of.began of.last m of.ended of.finished of.later of.upto
+      (kind-of lines k run course of.call party of.began of.last m of.ended of.finished
+      of.later of.upto
       (record { step = did; found = found; ended = ended }) g)
     where
-      by : (call : Call) → adds_or_takes call ≡ true → StepKind lines k run course call did → IsTakenSince run m p
+      by : (call : Call) → adds_or_takes call ≡ true → StepKind lines k run course call did
+          → IsTakenSince run m p
       by (Insert hash) passes (w, mask, is, part) =
           absurd (both_ways (moment run (m + 1) p) off
-          (on-or lines k run course m p on party (8 * line_of lines hash + w) mask found did ended is g))
+          (on-or lines k run course m p on party (8 * line_of lines hash + w) mask found did ended
+          is g))
       by (Contains hash) passes (i, is) =
           absurd (both_ways (moment run (m + 1) p) off
           (on-load lines k run course m p on party i found did ended is g))

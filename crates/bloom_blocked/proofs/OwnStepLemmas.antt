@@ -73,15 +73,15 @@ module _ (run : Course) (party began last : ℕ) (s : List Taken)
       (i, did-got party s i party t (sym (ap (λ l. slice_get l i) own) ∙ at))
 
 -- the last step of a finished call on a part of the words
-pub record IsLastOf (run : Course) (party last start : ℕ) (inside : List Taken) (ended : End) : Type 0
-  where
-    pub i : ℕ
-    pub t : Taken
-    pub here : slice_get inside i ≡ Some t
-    pub closes : i + 1 ≡ length inside
-    pub ends : t.ended ≡ ended
-    pub at : slice_get run.records last
-        ≡ Some (Did party (step_from start t.step) t.found t.ended)
+pub record IsLastOf (run : Course) (party last start : ℕ) (inside : List Taken) (ended : End)
+    : Type 0 where
+  pub i : ℕ
+  pub t : Taken
+  pub here : slice_get inside i ≡ Some t
+  pub closes : i + 1 ≡ length inside
+  pub ends : t.ended ≡ ended
+  pub at : slice_get run.records last
+      ≡ Some (Did party (step_from start t.step) t.found t.ended)
 
 -- a finished call whose steps lie in a part of the words
 module _ (run : Course) (party : ℕ) (call : Call) (began last : ℕ) (ended : End)

@@ -34,9 +34,10 @@ pub fn union_contains<S>()
     ensures { UnionOfLinesLaw S }
 {}
 
-/// In every interleaving of the calls on a shared blocked filter each bit is what the last step that
-/// decides it made it, an insert returns false exactly if it set a bit itself, a finished insert is
-/// found unless a position of it was cleared since it began, and a look-up is right at one moment.
+/// In every interleaving of the calls on a shared blocked filter each bit is what the last step
+/// that decides it made it, an insert returns false exactly if it set a bit itself, a finished
+/// insert is found unless a position of it was cleared since it began, and a look-up is right at
+/// one moment.
 /// Inserts, look-ups and takes lose nothing. A live call is made as a script of such a course.
 pub fn interleavings_in_lines()
     ensures courses { LineCourseLaw }
