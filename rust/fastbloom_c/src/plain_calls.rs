@@ -192,7 +192,8 @@ macro_rules! plain_calls {
             /// ```
             ///
             /// # Errors
-            /// [`Error::OtherShape`](crate::Error::OtherShape) where the filters differ in words, hashes or keys.
+            /// [`Error::OtherShape`](crate::Error::OtherShape) where the filters differ in words,
+            /// hashes or keys.
             pub fn union(&mut self, other: &$filter) -> Result<(), $crate::Error> {
                 if self.same_shape(other) && $raw::union(&mut self.$words, &other.$words) {
                     Ok(())
@@ -213,7 +214,8 @@ macro_rules! plain_calls {
             /// ```
             ///
             /// # Errors
-            /// [`Error::OtherShape`](crate::Error::OtherShape) where the filters differ in words, hashes or keys.
+            /// [`Error::OtherShape`](crate::Error::OtherShape) where the filters differ in words,
+            /// hashes or keys.
             pub fn intersect(&mut self, other: &$filter) -> Result<(), $crate::Error> {
                 if self.same_shape(other) && $raw::intersect(&mut self.$words, &other.$words) {
                     Ok(())
