@@ -33,6 +33,8 @@ TAKES_ITEMS(shared_blocked_filter, insert);
 TAKES_ITEMS(shared_blocked_filter, contains);
 TAKES_ITEMS(shared_blocked_filter, hash);
 TAKES_ITEMS(mapped_filter, contains);
+TAKES_ITEMS(mapped_filter, hash);
 TAKES_ITEMS(mapped_blocked_filter, contains);
+TAKES_ITEMS(mapped_blocked_filter, hash);
 
 int main() { return 0; }
