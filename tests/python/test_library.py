@@ -77,9 +77,8 @@ def test_each_call_that_takes_an_item_is_tried():
     headers = "".join((TOP / f"include/fastbloom{name}.hpp").read_text() for name in names)
     calls, bases = {}, set()
     for text in re.split(r"^(?:template <.*>\s)?class ", headers, flags=re.M)[1:]:
-        name, base = re.match(
-            r"(?:\[.*\] )?(\w+)(?:\s+: public (?:detail::)?(\w+))?", text
-        ).groups()
+        head = re.match(r"(?:\[.*\] )?(\w+)(?:\s+: public (?:detail::)?(\w+))?", text)
+        name, base = head.groups()
         calls[name] = calls.get(base, set()) | set(re.findall(r"(\w+)\(std::string_view ", text))
         bases.add(base)
     listed = found(r"^TAKES_ITEMS\((\w+), (\w+)\);$", TOP / "tests/cpp/items.cpp")
