@@ -72,7 +72,7 @@ def test_the_name_and_the_stack_of_the_shared_library():
 
 
 def test_each_call_that_takes_an_item_is_tried():
-    """The classes of C++ have just the calls that tests/cpp/items.cpp lists, or their bases have."""
+    """The classes of C++ and their bases have just the calls that tests/cpp/items.cpp lists."""
     names = ("", "_shared", "_blocked", "_blocked_shared")
     headers = "".join((TOP / f"include/fastbloom{name}.hpp").read_text() for name in names)
     calls, bases = {}, set()
