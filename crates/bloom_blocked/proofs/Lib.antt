@@ -18,6 +18,8 @@ mod LineInsertLemmas
 mod LineKindLemmas
 mod LineLemmas
 mod LineLookUpLemmas
+mod LineMomentFacts
+mod LineScriptFacts
 mod LineStepFacts
 mod LineTakeLemmas
 mod LiveScriptLemmas
