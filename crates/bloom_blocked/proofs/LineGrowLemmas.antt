@@ -9,7 +9,6 @@ use Rattle.bloom_steps.specs.declared.steps.vocabulary.Call.TheVariants.{Clear, 
 use Rattle.bloom_steps.specs.declared.steps.vocabulary.End.{End}
 use Rattle.bloom_steps.specs.declared.steps.vocabulary.Record.{Record}
 use Rattle.bloom_steps.specs.declared.steps.vocabulary.Record.TheVariants.{Began, Did}
-use Rattle.bloom_steps.specs.declared.steps.vocabulary.Step.TheVariants as step
 use Rattle.bloom_steps.specs.Courses.{Course}
 use Rattle.bloom_steps.specs.Moments.{IsFinished, moment}
 use Rattle.bloom_steps.specs.Plans.{goes_by_hash, plan_of}

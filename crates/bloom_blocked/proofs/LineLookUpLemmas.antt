@@ -1,5 +1,5 @@
 -- A look-up on a line in any interleaving: what it tells of the bits at its last load.
-use Rattle.std.proofs.Common.{◌*◌, ◌+◌, ◌-◌, ◌/◌, ◌<◌, ◌∙◌, ◌≡◌, ◌≤◌, Bool, List, Some, ap, arith, inl, inr, length, map, slice_get, sym, true, ℕ}
+use Rattle.std.proofs.Common.{◌*◌, ◌+◌, ◌/◌, ◌<◌, ◌∙◌, ◌≡◌, ◌≤◌, Bool, List, Some, ap, arith, inl, inr, length, map, slice_get, sym, true, ℕ}
 use Rattle.std.proofs.lemmas.Bool.{both_ways}
 use Rattle.std.proofs.lemmas.Bool.Decides.{eqb_tells}
 use Rattle.std.proofs.lemmas.Option.{same_Some, slice_get_within}

@@ -1,15 +1,14 @@
 -- What the theorems on courses of a blocked filter say: cases that hold, and cases that differ from
 -- one of these in one thing and don't hold. Here are one line and one hash. Hash 0 has position 0
 -- alone.
-use Rattle.std.proofs.Common.{[], ◌%◌, ◌+◌, ◌/◌, ◌<◌, ◌∙◌, ◌∷◌, ◌≡◌, ◌≤◌, Bool, List, Some, ap, arith, eqb, false, inl, inr, lit<, lit≤, refl, slice_get, subst, suc, sym, true, zero, ℕ}
+use Rattle.std.proofs.Common.{[], ◌%◌, ◌+◌, ◌/◌, ◌∷◌, ◌≡◌, ◌≤◌, Bool, List, Some, arith, eqb, false, inr, lit<, lit≤, refl, slice_get, suc, true, zero, ℕ}
 use Rattle.std.proofs.lemmas.Bool.{and_parts, both_ways, eqb-true}
 use Rattle.std.proofs.lemmas.Option.{none-some, same_Some}
 use Rattle.bloom_parts.specs.Chain.{chain}
-use Rattle.bloom_parts.specs.Content.{bit_is_on, content}
+use Rattle.bloom_parts.specs.Content.{content}
 use Rattle.bloom_parts.specs.Places.{are_in, positions}
 use Rattle.bloom_steps.specs.declared.steps.vocabulary.Call.{Call}
 use Rattle.bloom_steps.specs.declared.steps.vocabulary.Call.TheVariants.{Contains, Insert, Take}
-use Rattle.bloom_steps.specs.declared.steps.vocabulary.End.{End}
 use Rattle.bloom_steps.specs.declared.steps.vocabulary.End.TheVariants.{Answer, Done}
 use Rattle.bloom_steps.specs.declared.steps.vocabulary.Record.{Record}
 use Rattle.bloom_steps.specs.declared.steps.vocabulary.Record.TheVariants.{Began, Did}
@@ -17,11 +16,10 @@ use Rattle.bloom_steps.specs.declared.steps.vocabulary.Step.{Step}
 use Rattle.bloom_steps.specs.declared.steps.vocabulary.Step.TheVariants.{Load, Or}
 use Rattle.bloom_steps.specs.declared.steps.vocabulary.Step.TheVariants as step
 use Rattle.bloom_steps.specs.Courses.{Course}
-use Rattle.bloom_steps.specs.Moments.{IsFinished, IsStepAt}
-use Rattle.bloom_steps.specs.Interleavings.{adds_or_takes}
+use Rattle.bloom_steps.specs.Moments.{IsFinished}
 use Rattle.bloom_steps.specs.Plans.{goes_by_hash, plan_of}
 use Rattle.bloom_blocked.specs.LineCourses.{BitsTell, FindsInsertedInLine, IsRightInLine, NoneOfLineTurnedOff}
-use Rattle.bloom_blocked.specs.LineEnds.{EachStepOf, EndsWithInserts, IsTakenSince, LosesNoPosition, TakesWhatIsThere}
+use Rattle.bloom_blocked.specs.LineEnds.{EachStepOf, EndsWithInserts, IsTakenSince, TakesWhatIsThere}
 use Rattle.bloom_blocked.specs.Lines.{inner_of, line_positions}
 
 -- the words of a line of which the first alone may have bits

@@ -1,4 +1,5 @@
--- The script of an insert of hash 0 with one hash: it has one step, since hash 0 has position 0 alone.
+-- The script of an insert of hash 0 with one hash: it has one step, since hash 0 has position 0
+-- alone.
 use Rattle.std.proofs.Common.{[], ◌%◌, ◌/◌, ◌<◌, ◌∙◌, ◌∷◌, ◌≡◌, ◌↔◌, Bool, Some, ap, arith, false, lit<, nat_eq, refl, slice_get, subst, suc, sym, true, zero, ℕ}
 use Rattle.std.proofs.lemmas.Bool.{eqb-true, ne_eqb}
 use Rattle.std.proofs.lemmas.Nat.Bits.{bit_at-pow_other}

@@ -1,7 +1,7 @@
 -- Filters that grow as they are made, and what their laws say: cases that hold, and near ones that
 -- don't. The plan has room for one item at first, at the rate four. At 4 / 2 a filter of one word
 -- for one item has 44 hashes, and for two items 22. Hash 1 has the positions 0 and 20 among 64.
-use Rattle.std.proofs.Common.{◌≡◌, ◌∙◌, ◌<◌, ◌≤◌, ℕ, max, true, List, [], ◌∷◌, length, refl, ap, subst, arith, lit<, lit≤}
+use Rattle.std.proofs.Common.{◌≡◌, ◌∙◌, ◌<◌, ℕ, max, true, List, [], ◌∷◌, length, refl, ap, subst, arith, lit<, lit≤}
 use Rattle.bloom_parts.specs.Chain.{chain}
 use Rattle.bloom_parts.specs.Content.{content}
 use Rattle.bloom_parts.specs.Places.{are_in}

@@ -1,7 +1,7 @@
 -- What contracts see of a filter that threads share, and which steps its calls make. Contracts
 -- don't see its words, since any thread may change them at any time. Which steps make up a call is
 -- said once for all vectors (`bloom_steps`). These definitions are this project's own.
-use Rattle.std.specs.Prelude.{◌≡◌, ◌≢◌, ℕ, ◌<◌, Bool, List, length, map, All, Option, Some}
+use Rattle.std.specs.Prelude.{◌≡◌, ◌≢◌, ℕ, ◌<◌, Bool, List, length, map, Option, Some}
 use Rattle.bloom_parts.specs.Made.{SharedWords, BeganWith, FoundByLoad}
 use Rattle.bloom_plain.specs.Builders.{RateStart, IsSizeOf, sized_filter, empty_start}
 use Rattle.bloom_plain.specs.Filter.{Filter}
