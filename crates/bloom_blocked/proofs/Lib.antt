@@ -21,6 +21,7 @@ mod LineLookUpLemmas
 mod LineMomentFacts
 mod LineScriptFacts
 mod LineStepFacts
+mod LineTakeFacts
 mod LineTakeLemmas
 mod LiveScriptLemmas
 mod ManyLemmas

@@ -1,25 +1,25 @@
 -- What the theorems on courses of a blocked filter say: cases that hold, and cases that differ from
 -- one of these in one thing and don't hold. Here are one line and one hash. Hash 0 has position 0
 -- alone.
-use Rattle.std.proofs.Common.{[], ◌%◌, ◌+◌, ◌/◌, ◌∷◌, ◌≡◌, ◌≤◌, Bool, List, Some, arith, eqb, false, inr, lit<, lit≤, refl, slice_get, suc, true, zero, ℕ}
+use Rattle.std.proofs.Common.{[], ◌%◌, ◌+◌, ◌/◌, ◌∷◌, ◌≡◌, List, Some, arith, eqb, false, inr, lit<, lit≤, refl, slice_get, suc, true, zero, ℕ}
 use Rattle.std.proofs.lemmas.Bool.{and_parts, both_ways, eqb-true}
 use Rattle.std.proofs.lemmas.Option.{none-some, same_Some}
 use Rattle.bloom_parts.specs.Chain.{chain}
 use Rattle.bloom_parts.specs.Content.{content}
 use Rattle.bloom_parts.specs.Places.{are_in, positions}
 use Rattle.bloom_steps.specs.declared.steps.vocabulary.Call.{Call}
-use Rattle.bloom_steps.specs.declared.steps.vocabulary.Call.TheVariants.{Contains, Insert, Take}
-use Rattle.bloom_steps.specs.declared.steps.vocabulary.End.TheVariants.{Answer, Done}
+use Rattle.bloom_steps.specs.declared.steps.vocabulary.Call.TheVariants.{Contains, Insert}
+use Rattle.bloom_steps.specs.declared.steps.vocabulary.End.{End}
+use Rattle.bloom_steps.specs.declared.steps.vocabulary.End.TheVariants.{Answer, Running}
 use Rattle.bloom_steps.specs.declared.steps.vocabulary.Record.{Record}
 use Rattle.bloom_steps.specs.declared.steps.vocabulary.Record.TheVariants.{Began, Did}
 use Rattle.bloom_steps.specs.declared.steps.vocabulary.Step.{Step}
 use Rattle.bloom_steps.specs.declared.steps.vocabulary.Step.TheVariants.{Load, Or}
-use Rattle.bloom_steps.specs.declared.steps.vocabulary.Step.TheVariants as step
 use Rattle.bloom_steps.specs.Courses.{Course}
 use Rattle.bloom_steps.specs.Moments.{IsFinished}
 use Rattle.bloom_steps.specs.Plans.{goes_by_hash, plan_of}
 use Rattle.bloom_blocked.specs.LineCourses.{BitsTell, FindsInsertedInLine, IsRightInLine, NoneOfLineTurnedOff}
-use Rattle.bloom_blocked.specs.LineEnds.{EachStepOf, EndsWithInserts, IsTakenSince, TakesWhatIsThere}
+use Rattle.bloom_blocked.specs.LineEnds.{EachStepOf, EndsWithInserts}
 use Rattle.bloom_blocked.specs.Lines.{inner_of, line_positions}
 
 -- the words of a line of which the first alone may have bits
@@ -27,7 +27,7 @@ abbrev first : ℕ → List ℕ
 first word = word ∷ 0 ∷ 0 ∷ 0 ∷ 0 ∷ 0 ∷ 0 ∷ 0 ∷ []
 
 -- a course from a clear line
-abbrev from_clear : List Record → ℕ → Course
+abbrev pub from_clear : List Record → ℕ → Course
 from_clear records word = record { start = first 0; records = records; words = first word }
 
 -- the position of hash 0
@@ -92,15 +92,15 @@ missed-calm (suc (suc (suc zero))) p early late is = rw (zeroth-alone p is) refl
 missed-calm (suc (suc (suc (suc m)))) p early late is = absurd (omega (arith, late))
 
 -- a call of one step, which comes just behind its beginning, is finished
-at-once : (run : Course) (party began last : ℕ) (call : Call) (x : Step) (found : ℕ) (reply : Bool)
-    → slice_get run.records began ≡ Some (Began party call) → last ≡ began + 1
-    → slice_get run.records last ≡ Some (Did party x found (Answer reply))
-    → IsFinished run party call began last (Answer reply)
-at-once run party began last call x found reply begins next here = record {
+pub at-once : (run : Course) (party began last : ℕ) (call : Call) (x : Step) (found : ℕ) (end : End)
+    → (end ≡ Running → ⊥) → slice_get run.records began ≡ Some (Began party call)
+    → last ≡ began + 1 → slice_get run.records last ≡ Some (Did party x found end)
+    → IsFinished run party call began last end
+at-once run party began last call x found end over begins next here = record {
   begins = begins;
   order = omega (arith, next);
   ends = record { step = x; found = found; here = here };
-  over = λ e. cc;
+  over = over;
   no_other = λ m c l u e. omega (arith, next, l, u);
   still = λ m e l u at. absurd (omega (arith, next, l, u));
 }
@@ -109,8 +109,8 @@ at-once run party began last call x found reply begins next here = record {
 found-missed : FindsInsertedInLine 1 1 missed → ⊥
 found-missed all =
     both_ways false refl
-    (all 0 0 0 1 (Answer false) (at-once missed 0 0 1 (Insert 0) (Or 0 1) 0 false refl refl refl)
-    1 2 3 false (at-once missed 1 2 3 (Contains 0) (Load 0) 0 false refl refl refl) (lit< tt)
+    (all 0 0 0 1 (Answer false) (at-once missed 0 0 1 (Insert 0) (Or 0 1) 0 (Answer false) (λ e. cc) refl refl refl)
+    1 2 3 false (at-once missed 1 2 3 (Contains 0) (Load 0) 0 (Answer false) (λ e. cc) refl refl refl) (lit< tt)
     missed-calm)
 
 -- one insert, and the word after it
@@ -128,7 +128,7 @@ once-each word (suc zero) party ended at =
       began = 0;
       last = 1;
       ended = Answer false;
-      finished = at-once (once word) 0 0 1 (Insert 0) (Or 0 1) 0 false refl refl refl;
+      finished = at-once (once word) 0 0 1 (Insert 0) (Or 0 1) 0 (Answer false) (λ e. cc) refl refl refl;
       later = lit< tt;
       upto = lit≤ tt;
     })
@@ -145,41 +145,6 @@ ends-without ends =
       began = 0;
       last = 1;
       ended = Answer false;
-      finished = at-once (once 0) 0 0 1 (Insert 0) (Or 0 1) 0 false refl refl refl;
+      finished = at-once (once 0) 0 0 1 (Insert 0) (Or 0 1) 0 (Answer false) (λ e. cc) refl refl refl;
       position = refl;
     })))
-
--- a take of a word in which an insert set a bit, and what it found
-abbrev took : ℕ → Course
-took found =
-    from_clear
-    (Began 0 (Insert 0) ∷ Did 0 (Or 0 1) 0 (Answer false) ∷ Began 1 Take
-    ∷ Did 1 (step.Take 0) found Done ∷ []) 0
-
--- a take that found the bit has it since the bit was set, and not after the take
-since-set : IsTakenSince (took 1) 2 0
-since-set = record {
-  at = 3;
-  since = lit≤ tt;
-  party = 1;
-  found = 1;
-  ended = Done;
-  takes = refl;
-  on = refl;
-}
-
-since-later : IsTakenSince (took 1) 4 0 → ⊥
-since-later by = none by.at by.since by.takes
-  where
-    none : (m : ℕ) → 4 ≤ m
-        → slice_get (took 1).records m ≡ Some (Did by.party (step.Take 0) by.found by.ended) → ⊥
-    none zero l e = omega (arith, l)
-    none (suc zero) l e = omega (arith, l)
-    none (suc (suc zero)) l e = omega (arith, l)
-    none (suc (suc (suc zero))) l e = omega (arith, l)
-    none (suc (suc (suc (suc m)))) l e = none-some _ e
-
--- a take that found nothing took what was there
-takes-nothing : TakesWhatIsThere (took 0) → ⊥
-unfolding content
-takes-nothing all = both_ways false refl (all 3 1 0 0 Done refl 0 refl).0
