@@ -109,9 +109,10 @@ at-once run party began last call x found end over begins next here = record {
 found-missed : FindsInsertedInLine 1 1 missed → ⊥
 found-missed all =
     both_ways false refl
-    (all 0 0 0 1 (Answer false) (at-once missed 0 0 1 (Insert 0) (Or 0 1) 0 (Answer false) (λ e. cc) refl refl refl)
-    1 2 3 false (at-once missed 1 2 3 (Contains 0) (Load 0) 0 (Answer false) (λ e. cc) refl refl refl) (lit< tt)
-    missed-calm)
+    (all 0 0 0 1 (Answer false)
+    (at-once missed 0 0 1 (Insert 0) (Or 0 1) 0 (Answer false) (λ e. cc) refl refl refl) 1 2 3 false
+    (at-once missed 1 2 3 (Contains 0) (Load 0) 0 (Answer false) (λ e. cc) refl refl refl)
+    (lit< tt) missed-calm)
 
 -- one insert, and the word after it
 abbrev once : ℕ → Course
@@ -128,7 +129,8 @@ once-each word (suc zero) party ended at =
       began = 0;
       last = 1;
       ended = Answer false;
-      finished = at-once (once word) 0 0 1 (Insert 0) (Or 0 1) 0 (Answer false) (λ e. cc) refl refl refl;
+      finished =
+          at-once (once word) 0 0 1 (Insert 0) (Or 0 1) 0 (Answer false) (λ e. cc) refl refl refl;
       later = lit< tt;
       upto = lit≤ tt;
     })
@@ -145,6 +147,7 @@ ends-without ends =
       began = 0;
       last = 1;
       ended = Answer false;
-      finished = at-once (once 0) 0 0 1 (Insert 0) (Or 0 1) 0 (Answer false) (λ e. cc) refl refl refl;
+      finished =
+          at-once (once 0) 0 0 1 (Insert 0) (Or 0 1) 0 (Answer false) (λ e. cc) refl refl refl;
       position = refl;
     })))
