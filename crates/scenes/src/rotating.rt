@@ -35,7 +35,7 @@ pub(crate) fn is_made(alloc: Global) -> Result<bool, GrowingError> {
 // that comes twice behind them is, the second time.
 fn takes(filter: &mut RotatingFilter, room: usize) -> bool {
     let mut is_right = filter.turns() == 0;
-    for i in 0..room as u64 * 3 {
+    for i in 0..(room as u64).saturating_mul(3) {
         filter.insert_hash(spread(i));
         is_right &= filter.contains_hash(spread(i));
     }
