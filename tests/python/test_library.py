@@ -29,7 +29,7 @@ def test_the_header_declares_the_calls():
 def test_the_numbers_of_refusals_are_those_of_the_sources():
     rows = [
         row
-        for file in ("bloom_parts/src/error.rt", "bloom_plain/src/file/error.rt")
+        for file in ("bloom_parts/src/error.rt", "bloom_files/src/error.rt")
         for row in found(
             r"^ *(?:Filter|File)Error::(\w+)(?:\(_\))? => (\d+),$", TOP / "crates" / file
         )

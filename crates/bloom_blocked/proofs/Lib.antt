@@ -7,12 +7,10 @@ mod BlockedSizingFacts
 mod BuilderLemmas
 mod CarriedLemmas
 mod FilterLemmas
-mod LawLemmas
+pub mod LawLemmas
 mod LineCourseFacts
 mod LineCourseLaws
 mod LineFacts
-mod LineFileFacts
-mod LineFileLemmas
 mod LineGrowLemmas
 mod LineInsertLemmas
 mod LineKindLemmas

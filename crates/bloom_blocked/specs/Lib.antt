@@ -1,6 +1,5 @@
 pub mod Blocked
 pub mod BlockedData
-pub mod BlockedFile
 pub mod BlockedLaws
 pub mod BlockedSizing
 pub mod InsertLaws

@@ -8,7 +8,6 @@ ghost use Rattle.bloom_blocked.specs.Blocked.{HasBlockedShape, contains_in_line,
 ghost use Rattle.bloom_blocked.specs.Many.{TellsFound, TellsNew};
 
 mod data;
-mod file;
 mod items;
 mod sets;
 

@@ -7,7 +7,8 @@ use crate::telling::{
     DONE, OVERFULL, Teller, tell_fault, tell_no_room, tell_output, tell_unwritten,
 };
 use bloom_blocked::BlockedBloomFilter;
-use bloom_plain::{BloomFilter, FilterError, GrowingError, GrowingFilter, RotatingFilter};
+use bloom_growing::{GrowingError, GrowingFilter, RotatingFilter};
+use bloom_plain::{BloomFilter, FilterError};
 use duplicates_engine::{Fault, Options, Sieve, Total, Written, keep_new};
 use std::io;
 use std::io::{BufWriter, IsTerminal};

@@ -9,10 +9,11 @@
 //! - `seated`: `SeatedBloomFilter`, whose words lie in a table of `atomic_table`: its calls
 //!   (`filter`), its rule (`rule`), the steps of passes (`steps`) and their loops (`looks`), how it
 //!   begins (`opening`, `passes`), how passes meet (`meetings`), and how it ends (`closing`).
-//! - `laws`: the laws of all these.
+//! - `laws`: the laws of all these, but for those of blocked filters (`blocked_laws`).
 #![tactic(auto)]
 
 mod atomic;
+pub mod blocked_laws;
 mod builder;
 pub mod laws;
 mod parallel;
@@ -21,8 +22,11 @@ mod seated;
 pub use atomic::AtomicBloomFilter;
 pub use bloom_blocked::{
     AtomicBlockedBloomFilter, BlockedBloomFilter, BlockedBuilderWithBits,
-    BlockedBuilderWithFalsePositiveRate, BlockedFilterData, LinesError, laws as blocked_laws,
+    BlockedBuilderWithFalsePositiveRate, BlockedFilterData, LinesError,
 };
+pub use bloom_files as file;
+pub use bloom_files::{FileError, FilterFile};
+pub use bloom_growing::{GrowingError, GrowingFilter, RotatingFilter};
 pub use bloom_parts::bit_vector::{AtomicWords, Words};
 pub use bloom_parts::error::FilterError;
 pub use bloom_parts::hasher::{CloneBuildHasher, DefaultHasher, RandomDefaultHasher};
@@ -33,10 +37,7 @@ pub use bloom_parts::math::{
 };
 pub use bloom_parts::text::Text;
 pub use bloom_plain::builder::{BuilderWithBits, BuilderWithFalsePositiveRate};
-pub use bloom_plain::file::FileError;
-pub use bloom_plain::{
-    BitsData, BloomFilter, Command, FilterData, GrowingError, GrowingFilter, RotatingFilter, file,
-};
+pub use bloom_plain::{BitsData, BloomFilter, Command, FilterData};
 pub use bloom_steps::{
     Call, End, Event, Machine, MemoryStore, Record, Step, Trace, WordStore, drive, run,
 };

@@ -4,8 +4,7 @@ mod in_lines;
 mod refused;
 mod streams;
 
-use bloom_plain::file::FileError;
-use fastbloom::{BloomFilter, DefaultHasher, FilterError, Text};
+use fastbloom::{BloomFilter, DefaultHasher, FileError, FilterError, FilterFile, Text};
 use std::alloc::Global;
 
 // The worked file of docs/FILE.md, as a program in Python makes it.

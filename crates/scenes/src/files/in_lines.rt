@@ -2,8 +2,7 @@
 use crate::files::KEY;
 use crate::telling::tell_row;
 use bloom_blocked::BlockedBloomFilter;
-use bloom_plain::file::FileError;
-use fastbloom::{BloomFilter, DefaultHasher, FilterError, Text};
+use fastbloom::{BloomFilter, DefaultHasher, FileError, FilterError, FilterFile, Text};
 use std::alloc::Global;
 
 // The worked file of lines of docs/FILE.md, as a program in Python makes it.

@@ -2,7 +2,7 @@
 //! refused, and files that end too early or too late.
 use crate::files::{WORKED, refusals};
 use crate::telling::{has_text, tell_row};
-use bloom_plain::file::FileError;
+use fastbloom::FileError;
 use std::alloc::Global;
 use std::io::ErrorKind;
 

@@ -2,8 +2,7 @@
 use crate::engines::faulty::{NARROW, Reading, Seen, Sink, Source, Writing};
 use crate::files::{WORKED, crabs};
 use crate::telling::tell_row;
-use bloom_plain::file::FileError;
-use fastbloom::{BloomFilter, FilterError};
+use fastbloom::{BloomFilter, FileError, FilterError, FilterFile};
 use std::alloc::Global;
 use std::io::ErrorKind;
 

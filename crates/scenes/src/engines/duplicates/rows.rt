@@ -2,8 +2,8 @@
 mod run;
 
 use crate::engines::faulty::{FLUSHED_ONCE, FULL, NARROW, SLOW, STUCK, UNFLUSHED};
-use bloom_plain::{FilterError, GrowingError};
 use duplicates_engine::{Fault, Tally, Total, Written};
+use fastbloom::{FilterError, GrowingError};
 use run::{LATE, PASSING};
 pub(crate) use run::{PLAIN, Run};
 use std::io::ErrorKind;
