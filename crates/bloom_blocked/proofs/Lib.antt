@@ -21,6 +21,7 @@ mod LineScriptFacts
 mod LineStepFacts
 mod LineTakeFacts
 mod LineTakeLemmas
+mod LiveScriptFacts
 mod LiveScriptLemmas
 mod ManyLemmas
 mod OwnStepLemmas

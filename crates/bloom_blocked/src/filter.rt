@@ -11,7 +11,6 @@ mod data;
 mod items;
 mod sets;
 
-use crate::words::with_range;
 use crate::{many, words};
 use bloom_parts::hasher::DefaultHasher;
 use bloom_parts::slices;
@@ -107,7 +106,7 @@ impl<S> BlockedBloomFilter<S> {
         ensures shape { HasBlockedShape self.now }
         ensures range { AreWords self.now.words }
     {
-        with_range(self.words.as_slice())
+        slices::with_range(self.words.as_slice())
     }
 
     /// An iterator over the words, word 0 first.
