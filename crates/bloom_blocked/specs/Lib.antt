@@ -5,6 +5,7 @@ pub mod BlockedSizing
 pub mod InsertLaws
 pub mod LineCourses
 pub mod LineEnds
+pub mod LineRates
 pub mod LineRefusals
 pub mod LineSteps
 pub mod Lines
