@@ -20,6 +20,7 @@ class Database(sqlite3.Connection):
         super().__init__(*words, isolation_level=None, **options)
         self.enable_load_extension(True)
         self.load_extension(EXTENSION)
+        self.execute("PRAGMA synchronous = OFF")
 
     def one(self, sql, *values):
         """The first column of the first row."""

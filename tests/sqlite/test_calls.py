@@ -171,7 +171,7 @@ def test_queries_find_what_was_inserted(db, sql):
 
 
 REFUSED = {
-    "a filter has no list, count or DELETE": [
+    "a filter answers only WHERE item = ..": [
         "SELECT * FROM seen",
         "SELECT count(*) FROM seen",
         "SELECT 1 FROM seen",
@@ -186,7 +186,7 @@ REFUSED = {
         "DELETE FROM seen WHERE item = 'crab'",
         "UPDATE seen SET item = 'x' WHERE item = 'crab'",
     ],
-    "compares bytes: ask WHERE item = .. COLLATE BINARY": [
+    "only WHERE item = .. COLLATE BINARY": [
         "SELECT 1 FROM seen WHERE item = 'CRAB' COLLATE NOCASE",
         "SELECT 1 FROM t WHERE EXISTS(SELECT 1 FROM seen WHERE nocase = item)",
     ],
@@ -284,10 +284,8 @@ def test_a_file_that_differs_by_row_is_checked_in_each(db):
         db.execute("INSERT INTO files SELECT ?, bloom('in', 10, '1/100')", ("x" * length,))
     query = "SELECT bloom_contains(file, 'in'), bloom_contains(file, 'out') FROM files"
     assert db.execute(query).fetchall() == [(1, 0)] * 9
-    db.execute("INSERT INTO seen(item) VALUES('x')")
-    db.execute(
-        "INSERT INTO files SELECT 1, CAST(substr(file, 1, 99) || 'x' || substr(file, 101) AS BLOB) FROM files"
-    )
+    changed = "CAST(substr(file, 1, 99) || 'x' || substr(file, 101) AS BLOB)"
+    db.execute(f"INSERT INTO files SELECT 1, {changed} FROM files")
     assert db.refuses("the seal is wrong", query)
 
 

@@ -61,7 +61,7 @@ def test_a_rename_that_is_undone(db):
     db.run("ALTER TABLE seen RENAME TO \"we \"\"ird\"")
     assert db.one("""SELECT group_concat(name) FROM sqlite_schema""") == 'we "ird,we "ird_data'
     assert db.insert("new", into='"we ""ird"') == 1
-    assert db.refuses("a filter has no list", 'SELECT * FROM "we ""ird"')
+    assert db.refuses("a filter answers only", 'SELECT * FROM "we ""ird"')
     db.execute('DROP TABLE "we ""ird"')
     assert db.one("SELECT count(*) FROM sqlite_schema") == 0
 
@@ -200,6 +200,7 @@ SELECT count(*) FROM sqlite_schema;
     assert errors.count("table seen_data may not be dropped") == 1 and errors.count("error") == 2
 
 
+CHANGED = "CAST(substr(bits, 1, {}) || x'{}' || substr(bits, {}) AS BLOB)"
 # What a hand does to the rows, and which row is told as damaged: of 46, of which 45 have lines.
 DAMAGES = {
     "UPDATE seen_data SET bits = substr(bits, 1, 100) WHERE page > 0": "",
@@ -213,10 +214,8 @@ DAMAGES = {
     "UPDATE seen_data SET page = page + 100 WHERE page > 0": "",
     "DROP TABLE seen_data": "0",
     "ALTER TABLE seen_data RENAME bits TO bats": "0",
-    "UPDATE seen_data SET bits = "
-    "CAST(substr(bits, 1, 8) || x'ffffffff00000000' || substr(bits, 17) AS BLOB) WHERE page = 0": "0",
-    "UPDATE seen_data SET bits = "
-    "CAST(substr(bits, 1, 16) || x'f8ffffffffffff03' || substr(bits, 25) AS BLOB) WHERE page = 0": "0",
+    f"UPDATE seen_data SET bits = {CHANGED.format(8, 'ffffffff00000000', 17)} WHERE page = 0": "0",
+    f"UPDATE seen_data SET bits = {CHANGED.format(16, 'f8ffffffffffff03', 25)} WHERE page = 0": "0",
 }
 ASKED = [
     "SELECT info FROM seen",
