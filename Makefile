@@ -1,6 +1,6 @@
-# Builds and installs the programs, the library for C, the extension of SQLite and the Python package
-# (docs/INSTALL.md).
-#   make            proves and builds the programs and the library, and the extension where SQLite's
+# Builds and installs the programs, the library for C, the extension of SQLite and the Python
+# package (docs/INSTALL.md).
+#   make            proves and builds the programs, the library, and the extension where SQLite's
 #                   headers are
 #   make check      the full check
 #   make install    installs them; DESTDIR goes before each folder

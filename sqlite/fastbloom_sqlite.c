@@ -203,11 +203,10 @@ static void in(sqlite3_context *context, int argc, sqlite3_value **argv) {
     if (code == SQLITE_OK) code = sqlite3_step(read);
     if (code == SQLITE_ROW) file = sqlite3_value_dup(sqlite3_column_value(read, 0));
     bool is_full = code == SQLITE_NOMEM || (code == SQLITE_ROW && file == NULL);
-    if (file != NULL)
-        look_up(context, file, false, argv[1]);
-    else
-        fail(context, is_full ? NULL : code == SQLITE_DONE ? "no row" : sqlite3_errmsg(db));
+    if (file != NULL) look_up(context, file, false, argv[1]);
     if (file != NULL) sqlite3_set_auxdata(context, 0, file, free_value);
+    if (file == NULL) fail(context, is_full ? NULL : sqlite3_errmsg(db));
+    if (file == NULL && !is_full && code != SQLITE_DONE) sqlite3_result_error_code(context, code);
     sqlite3_finalize(read);
 }
 
@@ -301,6 +300,7 @@ static int disconnect(sqlite3_vtab *base) {
     sqlite3_free(t->schema);
     sqlite3_free(t->shadow);
     sqlite3_free(t->quoted);
+    sqlite3_free(t->base.zErrMsg);
     sqlite3_free(t);
     return SQLITE_OK;
 }

@@ -5,8 +5,8 @@ For each number of items, by default 10^6 and 10^7, it fills a filter, a table w
 PRIMARY KEY, and one with 64-bit hashes of them as INTEGER PRIMARY KEY, each in a database of its
 own, and looks up keys that are there and others. Keys have 17 bytes and come in drawn order. Each
 database has a cache of 64 MB. Look-ups are also made after the file was dropped from the system's
-cache. Then batches of 10^6 keys meet the table of texts. Every row has seconds of the processor and,
-behind a stroke, of the clock; look-ups have microseconds each.
+cache. Then batches of 10^6 keys meet the table of texts. Every row has seconds of the processor
+and, behind a stroke, of the clock; look-ups have microseconds each.
 """
 import os
 import random
@@ -47,7 +47,7 @@ def timed(run, count=None):
 
 
 def make_keys(path, items):
-    """The keys, and batches of others: what is there, what isn't, and a hundredth and half there."""
+    """The keys, and batches: of some, of others, and with a hundredth or half that are there."""
     draw = random.Random(items)
     db = connect(path)
     key = lambda number: (f"k{number:016x}", number - 2**63)

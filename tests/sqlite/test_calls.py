@@ -259,7 +259,7 @@ REFUSED = {
     "more than 64 GiB": [f"{BLOOM}(items={10**12}, rate='1/10')"],
     "no such table": ["SELECT bloom_in('none', 1)", "SELECT bloom_in('none.seen', 1)"],
     "no such column": ["SELECT bloom_in('t', 1)"],
-    "no row": ["SELECT bloom_in('f', 1)"],
+    "no more rows": ["SELECT bloom_in('f', 1)"],
 }
 
 

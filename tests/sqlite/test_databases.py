@@ -120,6 +120,14 @@ def test_two_connections(tmp_path):
     one.create(items=50)
     assert one.insert("c") == 1 and two.has("c") and not two.has("a")
     assert two.insert("d") == 1 and one.has("d") and len(two.file()) == len(one.file())
+    two.close()
+    one.execute("PRAGMA journal_mode = DELETE")
+    two = connect(tmp_path / "db", timeout=0.1)
+    one.execute("BEGIN EXCLUSIVE")
+    for sql in ("SELECT bloom_in('seen', 'c')", "SELECT 1 FROM seen WHERE item = 'c'"):
+        with pytest.raises(sqlite3.OperationalError) as refused:
+            two.execute(sql).fetchall()
+        assert refused.value.sqlite_errorcode == sqlite3.SQLITE_BUSY
 
 
 def test_attached_databases(tmp_path, db):

@@ -20,8 +20,8 @@ use bloom_blocked::words::{LINE, contains_hash, insert_hash, line_start};
 /// The line of a hash: a number from 0 on, which stands for the words `8 * line` to `8 * line + 7`.
 ///
 /// These eight words alone are a filter of one line, and calls on the hash do there what they do in
-/// all words. So a caller may keep the lines anywhere, and have at hand only the one it needs. Fewer
-/// than eight words have no line: the call returns 2^64 - 1.
+/// all words. So a caller may keep the lines anywhere, and have at hand only the one it needs. Of
+/// fewer than eight words none is a line, and the call returns 2^64 - 1.
 #[unsafe(no_mangle)]
 pub extern "C" fn fastbloom_blocked_line(num_words: usize, hash: u64) -> usize
     ensures line { 8 ≤ num_words → result ≡ line_of (num_words / 8) hash }
