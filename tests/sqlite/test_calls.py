@@ -382,14 +382,15 @@ def test_a_large_item(db):
 
 def test_what_a_schema_may_call(db):
     """Reading a table by name is for statements alone, the rest is for triggers and views, too."""
-    db.execute("PRAGMA trusted_schema = OFF")
     db.execute("CREATE TABLE t(k)")
     db.execute("CREATE TRIGGER g AFTER INSERT ON t BEGIN INSERT INTO seen(item) VALUES(NEW.k); END")
     db.execute("CREATE VIEW v AS SELECT bloom_contains(bloom(k, 10, '1/10'), 'crab') FROM t")
     db.execute("CREATE VIEW w AS SELECT bloom_in('seen', 'crab')")
-    db.execute("INSERT INTO t VALUES('crab')")
-    assert db.has("crab") and db.one("SELECT * FROM v") == 1
-    assert db.refuses("unsafe use of bloom_in", "SELECT * FROM w")
+    for trusted in ("ON", "OFF"):
+        db.execute(f"PRAGMA trusted_schema = {trusted}")
+        db.execute("INSERT INTO t VALUES('crab')")
+        assert db.has("crab") and db.one("SELECT * FROM v") == 1
+        assert db.refuses("unsafe use of bloom_in", "SELECT * FROM w")
 
 
 def test_bloom_in_is_of_the_first_row(db):
