@@ -306,6 +306,12 @@ bool fastbloom_blocked_insert_hash(uint64_t *words, size_t num_words, uint32_t n
 bool fastbloom_blocked_contains_hash(const uint64_t *words, size_t num_words, uint32_t num_hashes,
                                      uint64_t hash);
 
+/* The line of a hash, among those of so many words: a number from 0 on. It stands for the words from
+ * 8 * line to 8 * line + 7. These eight words alone are a filter of one line, in which the calls on
+ * this hash do what they do in all words. So lines may be kept anywhere, as in rows of a table, and
+ * only one of them is read for a call. It returns SIZE_MAX where num_words is less than 8. */
+size_t fastbloom_blocked_line(size_t num_words, uint64_t hash);
+
 /* Sets all positions of each of count hashes, and returns true. Of words of a mebibyte and more,
  * the lines of 64 hashes are read together first. */
 bool fastbloom_blocked_insert_hashes(uint64_t *words, size_t num_words, uint32_t num_hashes,

@@ -134,6 +134,34 @@ static void try_bytes(void) {
     wants("words by shared bytes", 1, fastbloom_equal(by_shared, 3 * LINE, by_hash, 3 * LINE));
 }
 
+/* The line of a hash, and the calls on its eight words alone, which do what they do in all words. */
+static void try_lines(void) {
+    __extension__ typedef unsigned __int128 wide;
+    enum { MOST = 40, K = 7 };
+    uint64_t all[MOST * LINE], kept[MOST * LINE];
+    wants("no line of 0 words", SIZE_MAX, fastbloom_blocked_line(0, 5));
+    wants("no line of 7 words", SIZE_MAX, fastbloom_blocked_line(LINE - 1, UINT64_MAX));
+    wants("a line of all words", (UINT64_C(1) << 61) - 2,
+          fastbloom_blocked_line(SIZE_MAX, UINT64_MAX));
+    for (size_t lines = 1; lines <= MOST; lines++) {
+        memset(all, 0, sizeof all), memset(kept, 0, sizeof kept);
+        for (uint64_t i = 0; i < 20 * lines; i++) {
+            uint64_t hash = i == 0 ? UINT64_MAX : i == 1 ? 0 : drawn(lines, i);
+            size_t words = LINE * lines + i % LINE;
+            size_t line = fastbloom_blocked_line(words, hash);
+            wants("a line", (uint64_t)((wide)hash * lines >> 64), line);
+            if (line >= lines) continue;
+            wants("a look-up in a line alone",
+                  fastbloom_blocked_contains_hash(all, words - i % LINE, K, hash),
+                  fastbloom_blocked_contains_hash(kept + LINE * line, LINE, K, hash));
+            wants("an insert into a line alone",
+                  fastbloom_blocked_insert_hash(all, words - i % LINE, K, hash),
+                  fastbloom_blocked_insert_hash(kept + LINE * line, LINE, K, hash));
+        }
+        wants("lines alone", 0, (uint64_t)(memcmp(all, kept, sizeof all) != 0));
+    }
+}
+
 /* Plans, of which a program in Python computed the numbers, and refusals. */
 static void try_plans(void) {
     static const struct {
@@ -418,6 +446,7 @@ int main(int argc, char **argv) {
                session % 4 == 3 ? "\n" : "");
     }
     try_bytes();
+    try_lines();
     try_plans();
     try_refusals();
     try_rates_now();

@@ -485,6 +485,11 @@ extern "C" {
         num_hashes: *mut u32,
     ) -> u8;
 
+    /// The line of a hash: the words from `8 * line` to `8 * line + 7`, which alone are a filter of
+    /// one line, in which the calls on this hash do what they do in all words. It is `usize::MAX`
+    /// for fewer than eight words.
+    pub fn fastbloom_blocked_line(num_words: usize, hash: u64) -> usize;
+
     /// Sets all positions of a hash in its line, and returns whether all were set just before. Words
     /// behind the last whole line stay as they are, and fewer than eight are no filter.
     pub fn fastbloom_blocked_insert_hash(
