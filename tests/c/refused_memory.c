@@ -1,10 +1,12 @@
 /* Loaded into a program by LD_PRELOAD, it refuses requests for memory: with REFUSED=3 the third, and
- * with REFUSED=3.. also each one behind it. It tells each refusal on standard error. Requests count
- * that come from between the two addresses in ALLOCATOR, which begin with the program, so that those
- * of C code, as for a thread's start, are left alone. */
+ * with REFUSED=3.. also each one behind it. With NO_THREAD=3 it refuses the third thread. It tells
+ * each refusal on standard error. Requests count that come from between the two addresses in
+ * ALLOCATOR, which begin with the program, so that those of C code, as for a thread's start, are
+ * left alone. */
 #define _GNU_SOURCE
 #include <dlfcn.h>
 #include <errno.h>
+#include <pthread.h>
 #include <stdatomic.h>
 #include <stdlib.h>
 #include <sys/auxv.h>
@@ -22,6 +24,11 @@ static int is_between(const char *text, const char *address) {
     return strtoul(text, &rest, 0) <= offset && offset < strtoul(rest, NULL, 0);
 }
 
+static int tell(int error) {
+    errno = error;
+    return write(STDERR_FILENO, "refused\n", 8) > 0;
+}
+
 static int is_refused(const void *caller) {
     static atomic_ulong requests;
     const char *refused = getenv("REFUSED");
@@ -29,8 +36,7 @@ static int is_refused(const void *caller) {
     if (!refused || !is_between(getenv("ALLOCATOR"), caller)) return 0;
     unsigned long number = atomic_fetch_add(&requests, 1) + 1, first = strtoul(refused, &rest, 10);
     if (number < first || (number > first && *rest != '.')) return 0;
-    errno = ENOMEM;
-    return write(STDERR_FILENO, "refused\n", 8) > 0;
+    return tell(ENOMEM);
 }
 
 void *malloc(size_t size) {
@@ -39,4 +45,18 @@ void *malloc(size_t size) {
 
 void *realloc(void *old, size_t size) {
     return is_refused(__builtin_return_address(0)) ? NULL : __libc_realloc(old, size);
+}
+
+int pthread_create(pthread_t *thread, const pthread_attr_t *how, void *(*begin)(void *),
+                   void *with) {
+    static atomic_ulong threads;
+    const char *refused = getenv("NO_THREAD");
+    unsigned long number = atomic_fetch_add(&threads, 1) + 1;
+    if (refused && number == strtoul(refused, NULL, 10)) {
+        tell(EAGAIN);
+        return EAGAIN;
+    }
+    int (*create)(pthread_t *, const pthread_attr_t *, void *(*)(void *), void *);
+    *(void **)&create = dlsym(RTLD_NEXT, "pthread_create");
+    return create(thread, how, begin, with);
 }
