@@ -116,7 +116,8 @@ fn carries_out(alloc: Global, filter: &mut BloomFilter) -> bool {
 
 // Whether both hold of the filter of hash 1.
 fn is_used(alloc: Global) -> Result<bool, FilterError> {
-    let (mut filter, copy) = (one(alloc)?, one(alloc)?);
+    let mut filter = one(alloc)?;
+    let copy = one(alloc)?;
     let other = by_bits_and_hashes(alloc)?;
     Ok(is_kept(&mut filter, &copy, &other) & carries_out(alloc, &mut filter))
 }

@@ -135,7 +135,8 @@ fn has_data(alloc: Global, filter: &AtomicBloomFilter) -> bool {
     match filter.to_data(alloc) {
         Ok(form) => {
             let has_length = form.bits.bits.len() == filter.num_bits() / 64;
-            let has_hashes = form.num_hashes_minus_one == filter.num_hashes() - 1;
+            let num_hashes = form.num_hashes_minus_one.checked_add(1);
+            let has_hashes = num_hashes == Some(filter.num_hashes());
             has_length & has_hashes & (form.k0 == 0) & (form.k1 == 0)
         }
         Err(_refusal) => false,
