@@ -14,8 +14,8 @@ type Kept = [u64; 64];
 fn take(alloc: Global, filter: &AtomicBloomFilter, kept: &mut Kept) -> bool {
     match filter.take_words(alloc) {
         Ok(words) => {
-            for (all, word) in kept.iter_mut().zip(words.as_slice()) {
-                *all |= *word;
+            for (i, word) in words.as_slice().iter().enumerate() {
+                kept[i % 64] |= *word;
             }
             words.len() == 64
         }
