@@ -27,8 +27,6 @@ macro_rules! scene {
 #[cfg(test)]
 mod answers;
 #[cfg(test)]
-mod bits;
-#[cfg(test)]
 mod blocked;
 #[cfg(test)]
 mod concrete;
@@ -36,8 +34,6 @@ mod concrete;
 mod drawn;
 #[cfg(test)]
 mod engines;
-#[cfg(test)]
-mod estimates;
 #[cfg(test)]
 mod files;
 #[cfg(test)]
@@ -51,9 +47,9 @@ mod hashing;
 #[cfg(test)]
 mod making;
 #[cfg(test)]
-mod many;
-#[cfg(test)]
 mod memory;
+#[cfg(test)]
+mod nothing;
 #[cfg(test)]
 mod numbers;
 #[cfg(test)]
@@ -72,6 +68,8 @@ mod seated;
 mod steps;
 #[cfg(test)]
 mod telling;
+#[cfg(test)]
+mod texts;
 #[cfg(test)]
 mod threads;
 #[cfg(test)]
