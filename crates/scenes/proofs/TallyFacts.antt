@@ -10,7 +10,7 @@ counted word steps = record {
   steps = steps;
 }
 
--- a step turns on the bits of its mask, and is counted
+-- a step sets the bits of its mask, and is counted
 one-step : CountsStep (counted 9 2) (Or 0 3) 9 (counted 11 3)
 one-step = record {
   moves = record { within = omega arith; finds = refl; writes = refl; kept = refl };

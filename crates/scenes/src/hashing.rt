@@ -187,7 +187,7 @@ fn goes_in<T: Hash>(filter: &mut BloomFilter, item: &T, hash: u64) -> bool {
 }
 
 // What Rust's own hasher (1.95) returns for the same items, and after one write of the bytes of a
-// text. Scenes have those of a number and of texts.
+// text. Scripted tests have those of a number and of texts.
 const SHAPES: &'static [(Shape, u64)] = &[
     (Shape::Dot, 0xbd60_acb6_58c7_9e45),
     (Shape::Round(3), 0x23a5_d0f3_6a07_c6bc),

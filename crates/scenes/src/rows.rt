@@ -1,4 +1,5 @@
-//! The tables of scenes. Their values come from the definitions, by hand or by a model in Python.
+//! The tables of scripted tests. Their values come from the definitions, by hand or by a model in
+//! Python.
 use crate::scene::Op::{Cross, Extend, Finds};
 use crate::scene::{Line, Scene};
 
@@ -10,8 +11,8 @@ mod sets;
 
 pub(crate) use builders::refusals;
 
-/// Every scene, by tables. A check takes longer for one long table than for two of half its length,
-/// so each table is of one subject.
+/// Every scripted test, by tables. A check takes longer for one long table than for two of half its
+/// length, so each table is of one subject.
 pub(crate) fn all() -> [&'static [Scene]; 12] {
     [
         by_hash::hashes(),

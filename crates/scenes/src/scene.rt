@@ -1,4 +1,5 @@
-//! Scenes: how a plain and a shared filter are made, and what both return from the same calls.
+//! Scripted tests: how a plain and a shared filter are made, and what both return from the same
+//! calls.
 
 /// The second word of the key of seed 42, which is 42 * 2^56. The first is 0.
 pub(crate) const SEED_42: u64 = 3026418949592973312;

@@ -1,5 +1,5 @@
-//! Scenes that are run again and again, each time with one request for memory refused. They print
-//! their calls and how each ended, which dev/starve compares.
+//! Scripted tests that are run again and again, each time with one request for memory refused. They
+//! print their calls and how each ended, which dev/starve compares.
 mod tables;
 
 use crate::follow::follow;
@@ -8,7 +8,7 @@ use crate::scene::Scene;
 use crate::telling::{NO_ROOM, say, tell_row, word_of};
 use tables::{Called, called, made};
 
-// Prints each call of a scene that was whole.
+// Prints each call of a scripted test that was whole.
 fn say_whole(rt: &HostRuntime, calls: &[&str]) -> bool {
     let mut all = true;
     for call in calls {
@@ -25,7 +25,7 @@ fn say_refused(rt: &HostRuntime, scene: &str, refused: Refused) -> bool {
     say(rt, refused.call, word_of(&Err(refused.reason)))
 }
 
-// Follows a scene, and prints how it ended. Each line must be as said, up to a refusal.
+// Follows a scripted test, and prints how it ended. Each line must be as said, up to a refusal.
 fn say_followed(rt: &HostRuntime, scene: &Scene, calls: &[&str]) -> bool {
     match follow(rt.alloc(), &scene.make, scene.lines) {
         Ok(None) => say_whole(rt, calls),
@@ -34,7 +34,7 @@ fn say_followed(rt: &HostRuntime, scene: &Scene, calls: &[&str]) -> bool {
     }
 }
 
-// Follows the scene of this number, and prints how it ended.
+// Follows the scripted test of this number, and prints how it ended.
 fn say_end(rt: &HostRuntime, scenes: &[Called], number: usize) -> bool {
     match scenes.get(number) {
         Some((calls, scene)) => say_followed(rt, scene, calls),
@@ -42,7 +42,7 @@ fn say_end(rt: &HostRuntime, scenes: &[Called], number: usize) -> bool {
     }
 }
 
-// Each test counts its own requests, so the scenes stand in tests of their own.
+// Each test counts its own requests, so each scripted test stands in one of its own.
 #[test]
 fn filters_of_bits_are_whole_or_refused(rt: HostRuntime) {
     assert!(rt; say_end(&rt, made(), 0));

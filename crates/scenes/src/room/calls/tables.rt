@@ -1,4 +1,4 @@
-//! The tables of scenes that are run again and again.
+//! The tables of scripted tests that are run again and again.
 use crate::scene::Op::{Build, Clone, Data, Replay, Take, Words};
 use crate::scene::Size::{Expected, Hashes, Numbers};
 use crate::scene::{Make, SEED_42, Scene};
@@ -6,12 +6,12 @@ use crate::scene::{Make, SEED_42, Scene};
 // The words 5 and 6 under three hashes and the key of seed 42.
 const STANDING: Make = Make::Words(&[5, 6], 42, Hashes(3));
 
-/// Calls that take memory, and scenes that make them beside filters that stand. A refused call ends
-/// its scene, and leaves the filters as they were. `shared hashes` makes the filters of every
-/// scene.
+/// Calls that take memory, and scripted tests that make them beside filters that stand. A refused
+/// call ends its test, and leaves the filters as they were. `shared hashes` makes the filters of
+/// every test.
 pub(super) type Called = (&'static [&'static str], Scene);
 
-// Scenes of filters that are made.
+// Scripted tests of filters that are made.
 const MADE: &'static [Called] = &[
     (
         &[
@@ -57,7 +57,7 @@ const MADE: &'static [Called] = &[
     ),
 ];
 
-// Scenes of calls on filters that stand.
+// Scripted tests of calls on filters that stand.
 const CALLED: &'static [Called] = &[
     (
         &[
@@ -88,12 +88,12 @@ const CALLED: &'static [Called] = &[
     ),
 ];
 
-/// Scenes of filters that are made.
+/// Scripted tests of filters that are made.
 pub(super) fn made() -> &'static [Called] {
     MADE
 }
 
-/// Scenes of calls on filters that stand.
+/// Scripted tests of calls on filters that stand.
 pub(super) fn called() -> &'static [Called] {
     CALLED
 }
