@@ -1,4 +1,4 @@
-//! Follows scenes: after each line both filters have the same words, hashes and hasher.
+//! Follows scripted tests: after each line both filters have the same words, hashes and hasher.
 use crate::making::{Pair, Refused, are_alike, have_words, pair_of, plain_of, shared_of};
 use crate::scene::{Line, Make, Op, Scene, Size};
 use crate::telling::{tell_named, tell_row};
@@ -74,7 +74,7 @@ pub(crate) fn follow(alloc: Global, make: &Make, lines: &[Line]) -> Result<Optio
     }
 }
 
-// Whether all lines of a scene return what they say. If not, its name and the line are told.
+// Whether each line of a scripted test returns what it says. If not, test and line are told.
 fn holds_true(rt: &HostRuntime, scene: &Scene) -> bool {
     match follow(rt.alloc(), &scene.make, scene.lines) {
         Ok(None) => true,

@@ -12,7 +12,7 @@
 //! - `used`: the examples of the pages.
 #![tactic(auto)]
 
-// A scene of a name, how its filters are made, and its lines.
+// A scripted test: its name, how its filters are made, and its lines.
 #[cfg(test)]
 macro_rules! scene {
     ($name:expr, $make:expr, $($line:expr),+ $(,)?) => {

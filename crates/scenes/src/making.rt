@@ -1,4 +1,4 @@
-//! How both filters of a scene are made, and whether they are alike.
+//! How both filters of a scripted test are made, and whether they are alike.
 use crate::scene::{Make, Size};
 use fastbloom::{
     AtomicBloomFilter, AtomicBuilderWithBits, BloomFilter, BuilderWithBits, FilterError, Rate,

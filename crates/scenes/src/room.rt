@@ -1,6 +1,6 @@
-//! Calls that take memory and are no lines of a scene: how each ends where a request for memory is
-//! refused, and what it leaves. Each test prints its calls and how they ended, which dev/starve
-//! compares.
+//! Calls that take memory and are no lines of a scripted test: how each ends where a request for
+//! memory is refused, and what it leaves. Each test prints its calls and how they ended, which
+//! dev/starve compares.
 
 mod calls;
 mod seated;

@@ -1,4 +1,5 @@
-//! Scenes: how a plain and a shared filter are made, and what both return from the same calls.
+//! Scripted tests: how a plain and a shared filter are made, and what both return from the same
+//! calls.
 
 /// An item, which is hashed as the number or the text that it holds. `Nothing` writes no byte.
 pub(crate) enum Item {

@@ -36,7 +36,7 @@ begun = record {
   room = λ e. omega arith;
 }
 
--- an insert of hash 1 after a step that found its bit on
+-- an insert of hash 1 after a step that found its bit set
 abbrev pub further : Machine
 further = record begun {
   turn = 1;
@@ -126,7 +126,7 @@ asks-load asks =
 answers : AnswersRight begun None
 answers w k call s st = record { says = sym st.said; begun = λ b. refl }
 
--- a new machine doesn't answer that all was on
+-- a new machine doesn't answer that all bits were set
 answers-true_early : AnswersRight begun (Some true) → ⊥
 answers-true_early answers = let says = (answers 1 2 (Insert 1) [] stands).says in cc
 

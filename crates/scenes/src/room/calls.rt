@@ -1,5 +1,5 @@
-//! Scenes that are run again and again, each time with one request for memory refused. They print
-//! their calls and how each ended, which dev/starve compares.
+//! Scripted tests that are run again and again, each time with one request for memory refused. They
+//! print their calls and how each ended, which dev/starve compares.
 mod tables;
 
 use crate::follow::follow;
@@ -7,7 +7,7 @@ use crate::making::{Refused, THE_TEST};
 use crate::telling::{NO_ROOM, say, tell_row, word_of};
 use tables::{CALLED, Called};
 
-// Prints each call of a scene that was whole.
+// Prints each call of a scripted test that was whole.
 fn say_whole(rt: &HostRuntime, calls: &[&str]) -> bool {
     let mut all = true;
     for call in calls {
@@ -24,7 +24,7 @@ fn say_refused(rt: &HostRuntime, scene: &str, refused: Refused) -> bool {
     say(rt, refused.call, word_of(&Err(refused.reason)))
 }
 
-// Follows a scene, and prints how it ended. Each line must be as said, up to a refusal.
+// Follows a scripted test, and prints how it ended. Each line must be as said, up to a refusal.
 fn say_followed(rt: &HostRuntime, called: &Called) -> bool {
     let (calls, scene) = called;
     match follow(rt.alloc(), &scene.make, scene.lines) {

@@ -1,4 +1,4 @@
-//! The scenes that are run again and again.
+//! The scripted tests that are run again and again.
 use crate::scene::Op::{Build, Clone, Cross, Replay, Take, Words};
 use crate::scene::Size::{Expected, Hashes, Numbers};
 use crate::scene::{Make, Scene};
@@ -6,12 +6,12 @@ use crate::scene::{Make, Scene};
 // The words 5 and 6 under three hashes and the key of seed 42.
 const STANDING: Make = Make::Words(&[5, 6], 42, Hashes(3));
 
-/// Calls that take memory, and scenes that make them beside filters that stand. A refused call ends
-/// its scene, and leaves the filters as they were. `shared hashes` makes the filters of every
-/// scene.
+/// Calls that take memory, and scripted tests that make them beside filters that stand. A refused
+/// call ends its test, and leaves the filters as they were. `shared hashes` makes the filters of
+/// every test.
 pub(super) type Called = (&'static [&'static str], Scene);
 
-/// The scenes: filters that are made, and calls on filters that stand.
+/// The scripted tests: filters that are made, and calls on filters that stand.
 pub(super) const CALLED: &'static [Called] = &[
     (
         &["with_num_bits", "shared with_num_bits", "shared hashes"],
