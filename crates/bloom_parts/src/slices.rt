@@ -24,7 +24,8 @@ pub const WORDS_BEYOND_CACHE: usize = 1 << 19;
 /// How many hashes are taken together where a filter is larger than a cache.
 pub const HASHES_TOGETHER: usize = 16;
 
-/// The same words, with the fact that each has 64 bits: a slice that was read from a field lacks it.
+/// The same words, with the fact that each has 64 bits, which a slice that was read from a field
+/// lacks.
 pub fn with_range(words: &[u64]) -> &[u64]
     ensures value { result.now ≡ words.now }
     ensures range { AreWords words.now }

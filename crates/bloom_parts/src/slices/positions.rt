@@ -2,8 +2,8 @@
 //! foresees whether one position is set.
 //!
 //! Each loop says what its form was measured to gain, in nanoseconds of a call with seven hashes,
-//! where no other number is named. docs/log/speed.md has these measurements, and the forms that were
-//! given up.
+//! where no other number is named. docs/log/speed.md has these measurements, and the forms that
+//! were given up.
 ghost use Rattle.std.specs.Prelude.{◌≡◌, ℕ, ◌*◌, ◌<◌, ◌≤◌, ◌||◌, length};
 ghost use Rattle.bloom_parts.specs.Content.{content};
 ghost use Rattle.bloom_parts.specs.Places.{positions, are_in};
@@ -149,8 +149,8 @@ pub fn insert_in_few_words(words: &mut [u64], num_hashes: u32, hash: u64) -> boo
 /// The first three are taken together, which tells apart most hashes that were never inserted. Of
 /// seven and more the next four are taken without a loop, since ten bits an item ask for seven.
 /// All others are taken together too, since no position waits long for its word. In the lines of
-/// 10^6 keys a hit takes 12.6 and a miss 9.2 with all others together, and 13.5 and 10.9 in the loop
-/// for any words. The four without a loop take 0.8 off a hit.
+/// 10^6 keys a hit takes 12.6 and a miss 9.2 with all others together, and 13.5 and 10.9 in the
+/// loop for any words. The four without a loop take 0.8 off a hit.
 #[inline(always)]
 pub fn contains_in_few_words(words: &[u64], num_hashes: u32, hash: u64) -> bool
     requires { 1 ≤ length words.now }
