@@ -27,9 +27,9 @@ pub use bloom_parts::bit_vector::{AtomicWords, Words};
 pub use bloom_parts::error::FilterError;
 pub use bloom_parts::hasher::{CloneBuildHasher, DefaultHasher, RandomDefaultHasher};
 pub use bloom_parts::math::{
-    Bracket, Estimate, Rate, estimated_common, estimated_items, estimated_part, expected_density,
-    expected_false_pos, false_pos_bounds, false_pos_of_either, false_pos_of_ones, optimal_hashes,
-    optimal_size,
+    Bracket, Estimate, Rate, capacity, estimated_common, estimated_items, estimated_part,
+    expected_density, expected_false_pos, false_pos_bounds, false_pos_of_either, false_pos_of_ones,
+    optimal_hashes, optimal_size,
 };
 pub use bloom_parts::text::Text;
 pub use bloom_plain::builder::{BuilderWithBits, BuilderWithFalsePositiveRate};
