@@ -19,6 +19,8 @@ mod LineKindLemmas
 mod LineLemmas
 mod LineLookUpLemmas
 mod LineMomentFacts
+mod LineRateFacts
+mod LineRateLemmas
 mod LineScriptFacts
 mod LineStepFacts
 mod LineTakeFacts

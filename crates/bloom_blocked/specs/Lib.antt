@@ -6,6 +6,7 @@ pub mod BlockedSizing
 pub mod InsertLaws
 pub mod LineCourses
 pub mod LineEnds
+pub mod LineRates
 pub mod LineRefusals
 pub mod LineSteps
 pub mod Lines
