@@ -11,6 +11,7 @@ ghost use Rattle.bloom_blocked.specs.Lines.{line_positions, are_in_line};
 pub mod files;
 pub mod many;
 pub mod plans;
+pub mod rates;
 pub mod shared;
 pub mod shared_many;
 

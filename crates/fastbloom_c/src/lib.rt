@@ -14,6 +14,7 @@
 #![tactic(auto)]
 
 pub mod blocked;
+pub mod capacities;
 pub mod counted_rates;
 pub mod estimates;
 pub mod files;
@@ -26,6 +27,7 @@ pub mod plans;
 pub mod rates;
 pub mod shared;
 pub mod shared_many;
+pub mod shared_rates;
 pub mod shared_whole;
 pub mod texts;
 pub mod whole;
