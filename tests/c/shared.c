@@ -199,6 +199,23 @@ static void try_alone(void) {
         if (i % 7 == 0) fastbloom_insert_hash(other, FEW, 1, hash + 9);
     }
     wants("words alone", 1, fastbloom_equal(words, FEW, plain, FEW));
+    uint64_t low, high, from, to;
+    size_t least, most, first, last;
+    for (uint32_t hashes = 0; hashes < 9; hashes++) {
+        wants("a rate", fastbloom_rate_now(plain, FEW, hashes, &from, &to),
+              fastbloom_shared_rate_now(few, hashes, &low, &high));
+        wants("its bounds", 1, from == low && to == high);
+        wants("an estimate", fastbloom_estimate(plain, FEW, hashes, &first, &last),
+              fastbloom_shared_estimate(few, hashes, &least, &most));
+        wants("its bounds", 1, first == least && last == most);
+    }
+    wants("a rate of nothing", 0, fastbloom_shared_rate_now(none, 1, &low, &high) || low || high);
+    wants("a rate of too many", 0,
+          fastbloom_shared_rate_now(too_many, 1, &from, &to) || from || to);
+    wants("items of nothing", 0,
+          fastbloom_shared_estimate(none, 1, &least, &most) || least || most);
+    wants("items of too many", 0,
+          fastbloom_shared_estimate(too_many, 1, &first, &last) || first || last);
     memcpy(copy, words, sizeof copy);
     memset(into, 0x5a, sizeof into);
     wants("a take into fewer", 0, fastbloom_shared_take(few, into, FEW - 1));
