@@ -235,7 +235,8 @@ fn the_library_has_each_symbol() {
         fastbloom_blocked_insert_hash fastbloom_blocked_insert_hashes
         fastbloom_blocked_insert_hashes_tell_new fastbloom_blocked_jaccard fastbloom_blocked_line
         fastbloom_blocked_load fastbloom_blocked_map fastbloom_blocked_plan
-        fastbloom_blocked_rate_bounds fastbloom_blocked_rate_now fastbloom_blocked_save fastbloom_blocked_seal
+        fastbloom_blocked_rate_bounds fastbloom_blocked_rate_now fastbloom_blocked_save
+        fastbloom_blocked_seal
         fastbloom_blocked_shared_contains fastbloom_blocked_shared_contains_hash
         fastbloom_blocked_shared_contains_hashes fastbloom_blocked_shared_estimate
         fastbloom_blocked_shared_insert fastbloom_blocked_shared_insert_hash

@@ -6,10 +6,11 @@ ghost use Rattle.fastbloom_c.specs.Passed.{MakeLines, vector_of};
 
 use super::shared::make_lines;
 use crate::lent::LentWords;
-use crate::words::PassedWords;
+use crate::words::{PassedWords, RawWords};
 use bloom_blocked::rates::{false_pos_of_lines, false_pos_of_shared_lines};
 use bloom_blocked::words::LINE;
 use bloom_parts::bit_vector::MAX_WORDS;
+use bloom_parts::math::Bracket;
 
 /// Two bounds of the rate of false positives of a blocked filter as it is, in units of 2^-63, and
 /// whether there are eight words, and at most 2^58 - 1.
@@ -43,6 +44,15 @@ pub extern "C" fn fastbloom_blocked_rate_now(
     true
 }
 
+// The rate of the lines of these words.
+fn rate_of(words: &RawWords, num_hashes: u32) -> Bracket
+    requires { MakeLines words.now.len }
+    ensures { BoundsLoadedLines (vector_of words.now.at words.now.len) (words.now.len / 8)
+        num_hashes result }
+{
+    false_pos_of_shared_lines(&LentWords::new(words), num_hashes)
+}
+
 /// The same of a filter that threads share, of its words as they were loaded, one after the other,
 /// each once.
 #[unsafe(no_mangle)]
@@ -66,7 +76,7 @@ pub extern "C" fn fastbloom_blocked_shared_rate_now(
     if !make_lines(&words) {
         return false;
     }
-    let now = false_pos_of_shared_lines(&LentWords::new(&words), num_hashes.max(1));
+    let now = rate_of(&words, num_hashes.max(1));
     *low = now.low();
     *high = now.high();
     true

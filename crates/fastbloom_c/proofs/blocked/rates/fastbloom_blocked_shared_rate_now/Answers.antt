@@ -7,7 +7,7 @@ pub returns-clause-told : goal.returns-clause-told
 returns-clause-told c told =
     let at_least_one : c.max.result ≡ max 1 c.args.num_hashes = omega (arith, c.max.ensures) in
     let words = c.args.words in
-    let rate = c.false_pos_of_shared_lines-now in
+    let rate = c.rate_of-now in
     let Told : ℕ → Type 0 =
     λ k. BoundsLoadedLines (vector_of words.at words.len) (words.len / 8) k rate.result in
     record {
