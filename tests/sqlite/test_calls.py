@@ -223,6 +223,8 @@ REFUSED = {
     "other items, another rate or another key": [
         "INSERT INTO seen(file) SELECT bloom(k, 2000, '1/1000') FROM t",
         "INSERT INTO seen(file) SELECT bloom(k, 1000, '1/9999') FROM t",
+        # as many words, and another number of hashes
+        "INSERT INTO seen(file) SELECT bloom(k, 905, '1/2000') FROM t",
     ],
     "another key": [
         "INSERT INTO seen(file) SELECT bloom(k, 1000, '1/1000', zeroblob(15) || x'01') FROM t",
