@@ -196,6 +196,10 @@ static void refused(const char *call, uint64_t reply) {
 /* Each call refuses these words, whatever else it is given. */
 static void try_refused_words(fastbloom_shared bad) {
     fastbloom_shared good = {target, ROOM};
+    uint64_t low = 1, high = 1;
+    size_t least = 1, most = 1;
+    REFUSED(fastbloom_shared_rate_now(bad, 3, &low, &high) || low || high);
+    REFUSED(fastbloom_shared_estimate(bad, 3, &least, &most) || least || most);
     REFUSED(fastbloom_shared_insert_hash(bad, 3, 5));
     REFUSED(fastbloom_shared_contains_hash(bad, 3, 5));
     REFUSED(fastbloom_shared_insert(bad, 3, key, key, 16));
@@ -219,6 +223,8 @@ static void try_refused_words(fastbloom_shared bad) {
 
 /* Each call on lines refuses these words. */
 static void try_refused_lines(fastbloom_shared bad) {
+    uint64_t low = 1, high = 1;
+    REFUSED(fastbloom_blocked_shared_rate_now(bad, 3, &low, &high) || low || high);
     REFUSED(fastbloom_blocked_shared_insert_hash(bad, 3, 5));
     REFUSED(fastbloom_blocked_shared_contains_hash(bad, 3, 5));
     REFUSED(fastbloom_blocked_shared_insert(bad, 3, key, key, 16));
@@ -292,13 +298,6 @@ static void try_alone(void) {
               fastbloom_shared_estimate(few, hashes, &least, &most));
         wants("its bounds", 1, first == least && last == most);
     }
-    wants("a rate of nothing", 0, fastbloom_shared_rate_now(none, 1, &low, &high) || low || high);
-    wants("a rate of too many", 0,
-          fastbloom_shared_rate_now(too_many, 1, &from, &to) || from || to);
-    wants("items of nothing", 0,
-          fastbloom_shared_estimate(none, 1, &least, &most) || least || most);
-    wants("items of too many", 0,
-          fastbloom_shared_estimate(too_many, 1, &first, &last) || first || last);
     memcpy(copy, other, sizeof copy);
     wants("a union alone", fastbloom_union(plain, FEW, other, FEW),
           fastbloom_shared_union(few, others));
