@@ -1,0 +1,15 @@
+//! What the programs `duplicates` and `summaries` share.
+#![tactic(auto)]
+
+mod inputs;
+mod output;
+mod rows;
+mod values;
+
+pub use inputs::first_output;
+pub use output::{Output, Writer, close, open_output};
+pub use rows::{Kind, Row, arguments_of};
+pub use values::{key_of, rate_of};
+
+/// The version that the programs tell: that of the Rust crate that the library was made from.
+pub const VERSION: &str = "0.17.0";
