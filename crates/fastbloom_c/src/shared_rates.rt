@@ -57,9 +57,10 @@ pub extern "C" fn fastbloom_shared_rate_now(
     *low = 0;
     *high = 0;
     let words = words.shared();
-    if !make_filter(&words) {
+    let accepted = make_filter(words.len());
+    let Some(words) = words.unless_refused(accepted) else {
         return false;
-    }
+    };
     let now = rate_of(&words, num_hashes.max(1));
     *low = now.low();
     *high = now.high();
@@ -85,9 +86,10 @@ pub extern "C" fn fastbloom_shared_estimate(
     *low = 0;
     *high = 0;
     let words = words.shared();
-    if !make_filter(&words) {
+    let accepted = make_filter(words.len());
+    let Some(words) = words.unless_refused(accepted) else {
         return false;
-    }
+    };
     tell(items_in(&words, num_hashes.max(1)), low, high);
     true
 }

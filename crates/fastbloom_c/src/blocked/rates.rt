@@ -73,9 +73,10 @@ pub extern "C" fn fastbloom_blocked_shared_rate_now(
     *low = 0;
     *high = 0;
     let words = words.shared();
-    if !make_lines(&words) {
+    let accepted = make_lines(words.len());
+    let Some(words) = words.unless_refused(accepted) else {
         return false;
-    }
+    };
     let now = rate_of(&words, num_hashes.max(1));
     *low = now.low();
     *high = now.high();
