@@ -2,11 +2,11 @@
 //!
 //! Words behind the last whole line are no part of the filter, and no call changes them. Fewer than
 //! eight words are no filter: a call returns false and changes nothing. `num_hashes` 0 counts as 1.
-ghost use Rattle.std.specs.Prelude.{◌≡◌, ℕ, ◌+◌, ◌-◌, ◌*◌, ◌/◌, ◌^◌, ◌<◌, ◌≤◌, ◌||◌, false, length, max};
+ghost use Rattle.std.specs.Prelude.{◌≡◌, ℕ, Bool, ◌+◌, ◌-◌, ◌*◌, ◌/◌, ◌^◌, ◌<◌, ◌≤◌, ◌||◌, true, false, length, max};
 ghost use Rattle.bloom_parts.specs.Content.{content};
 ghost use Rattle.bloom_parts.specs.Keys.{key_low, key_high};
 ghost use Rattle.bloom_parts.specs.Sip.{sip};
-ghost use Rattle.bloom_blocked.specs.Lines.{line_of, line_positions, are_in_line};
+ghost use Rattle.bloom_blocked.specs.Lines.{line_of, in_line, line_positions, are_in_line};
 
 pub mod files;
 pub mod many;
@@ -27,6 +27,14 @@ use bloom_blocked::words::{LINE, contains_hash, insert_hash, line_start};
 pub extern "C" fn fastbloom_blocked_line(num_words: usize, hash: u64) -> usize
     ensures line { 8 ≤ num_words → result ≡ line_of (num_words / 8) hash }
     ensures range { 8 ≤ num_words → 8 * result + 8 ≤ num_words }
+    // The line as a filter of its own contains a hash exactly if all words do.
+    ensures alone { 8 ≤ num_words → (k : ℕ) (A : ℕ → Bool)
+        → are_in_line 1 k hash (in_line A result) ≡ are_in_line (num_words / 8) k hash A }
+    // An insert sets the same positions of the line, and none elsewhere.
+    ensures here { 8 ≤ num_words → (k q : ℕ) → q < 512
+        → line_positions 1 k hash q ≡ line_positions (num_words / 8) k hash (512 * result + q) }
+    ensures elsewhere { 8 ≤ num_words → (k p : ℕ)
+        → line_positions (num_words / 8) k hash p ≡ true → p / 512 ≡ result }
     // Words that make no line are no filter.
     ensures none { num_words < 8 → result ≡ 2 ^ 64 - 1 }
 {
