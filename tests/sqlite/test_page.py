@@ -33,5 +33,5 @@ def test_sessions_print_what_they_say(section, tmp_path):
         assert " ".join(found) == wanted
 
 
-def test_the_page_has_three_recipes_and_at_most_900_words():
-    assert len(SECTIONS) == 3 and len(PAGE.split()) <= 900
+def test_the_page_has_three_recipes():
+    assert len(SECTIONS) == 3
