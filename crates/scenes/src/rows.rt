@@ -1,5 +1,5 @@
 //! The tables of scenes. Their values come from the definitions, by hand or by a model in Python.
-use crate::scene::Op::{Clone, Cross, Extend, Finds};
+use crate::scene::Op::{Cross, Extend, Finds};
 use crate::scene::Size::{Expected, Hashes};
 use crate::scene::{Line, Make, Scene};
 use fastbloom::FilterError;
@@ -31,7 +31,6 @@ pub(crate) const CROSSED: &'static [Line] = &[
     (Finds(0, 101), true),
     (Extend(230, 250), true),
     (Finds(200, 250), true),
-    (Clone, true),
     (Cross(false), true),
 ];
 
