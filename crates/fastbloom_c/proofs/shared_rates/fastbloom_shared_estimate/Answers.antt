@@ -12,7 +12,8 @@ returns-clause-told c told =
     record {
       estimate = rate.result;
       holds = subst Told at_least_one
-          (rw (c.in-Some.ensures.same, c.shared-words.ensures.at, c.shared-words.ensures.len) at rate.ensures);
+          (rw (c.in-Some.ensures.same, c.shared-words.ensures.at, c.shared-words.ensures.len)
+          at rate.ensures);
       is_low = c.tell.ensures.low;
       is_high = c.tell.ensures.high;
     }

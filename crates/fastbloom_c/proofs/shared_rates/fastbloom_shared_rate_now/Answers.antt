@@ -12,7 +12,8 @@ returns-clause-told c told =
     record {
       part = rate.result;
       holds = subst Told at_least_one
-          (rw (c.in-Some.ensures.same, c.shared-words.ensures.at, c.shared-words.ensures.len) at rate.ensures);
+          (rw (c.in-Some.ensures.same, c.shared-words.ensures.at, c.shared-words.ensures.len)
+          at rate.ensures);
       is_low = c.low.ensures;
       is_high = c.high.ensures;
     }
