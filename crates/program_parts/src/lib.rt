@@ -3,11 +3,13 @@
 
 mod inputs;
 mod output;
+mod progress;
 mod rows;
 mod values;
 
 pub use inputs::first_output;
 pub use output::{Output, Writer, close, open_output};
+pub use progress::Counted;
 pub use rows::{Kind, Row, arguments_of};
 pub use values::{key_of, rate_of};
 
