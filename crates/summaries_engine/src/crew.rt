@@ -12,6 +12,7 @@ use crate::stop::Stop;
 use fastbloom::{BloomFilter, FilterError, Gate, Shape, fill};
 use std::alloc::Global;
 use std::sync::Arc;
+use std::sync::atomic::{AtomicU64, Ordering};
 use std::thread::Threads;
 
 // The least number of hashes for which threads are started, but for the last ones.
@@ -49,13 +50,41 @@ fn unfilled(error: FilterError) -> Stop
     }
 }
 
-/// A filter that workers fill, of whom each passes a gate before it begins. They begin whenever as
-/// many hashes wait as the filter has words, so what waits takes no more memory than the filter.
+/// Lets every worker through at once, and counts them.
+//
+// It is no parameter: a thread takes nothing whose bounds an `impl` assumes.
 #[derive(Drop)]
-pub struct Crew<'a, R, G> {
+pub struct Begun {
+    count: AtomicU64,
+}
+
+impl Begun {
+    /// No worker began yet.
+    pub fn new() -> Self {
+        Begun {
+            count: AtomicU64::new(0),
+        }
+    }
+
+    /// How many workers began so far.
+    pub fn count(&self) -> u64 {
+        self.count.load(Ordering::SeqCst)
+    }
+}
+
+impl Gate for Begun {
+    fn pass(&self, _worker: usize) {
+        self.count.fetch_add(1, Ordering::SeqCst);
+    }
+}
+
+/// A filter that workers fill. They begin whenever as many hashes wait as the filter has words, so
+/// what waits takes no more memory than the filter.
+#[derive(Drop)]
+pub struct Crew<'a, R> {
     pub rt: &'a R,
     pub alloc: Global,
-    pub gate: Arc<G, Global>,
+    pub gate: Arc<Begun, Global>,
     /// The shape of the filter.
     pub shape: Shape,
     /// The most workers at once.
@@ -63,7 +92,7 @@ pub struct Crew<'a, R, G> {
     pub filter: BloomFilter,
 }
 
-impl<'a, R: Threads, G: Gate + Send + Sync + Drop + 'static> Crew<'a, R, G> {
+impl<'a, R: Threads> Crew<'a, R> {
     /// The filter, as it is.
     pub fn into_filter(self) -> BloomFilter
         ensures { result ≡ self.filter }
@@ -100,7 +129,7 @@ impl<'a, R: Threads, G: Gate + Send + Sync + Drop + 'static> Crew<'a, R, G> {
     }
 }
 
-impl<'a, R: Threads, G: Gate + Send + Sync + Drop + 'static> Filler for Crew<'a, R, G> {
+impl<'a, R: Threads> Filler for Crew<'a, R> {
     ghost ready = { λ crew. (0 < crew.workers) × IsShapeOf crew.filter crew.shape };
 
     ghost took = { λ old hashes new. Takes (Classic old.filter) hashes (Classic new.filter) };

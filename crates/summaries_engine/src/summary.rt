@@ -6,22 +6,14 @@ ghost use Rattle.summaries_engine.specs.Answers.{IsKeyed};
 ghost use Rattle.summaries_engine.specs.Inputs.{StopsBuilding, StopsHashes, SummarizesInputs};
 ghost use Rattle.summaries_engine.specs.Sizes.{IsEmpty, IsShapeOf};
 
-use crate::crew::Crew;
+use crate::crew::{Begun, Crew};
 use crate::inputs::Inputs;
 use crate::keys::filled_from;
 use crate::stop::Stop;
-use fastbloom::{BloomFilter, Gate, Shape};
+use fastbloom::{BloomFilter, Shape};
 use std::alloc::Global;
 use std::sync::Arc;
 use std::thread::Threads;
-
-// Lets every worker through at once.
-#[derive(Drop)]
-struct Open;
-
-impl Gate for Open {
-    fn pass(&self, _worker: usize) {}
-}
 
 /// An empty Bloom filter, filled with all keys of the inputs of these names as they are read. The
 /// byte `END` ends a key, and so does the end of an input.
@@ -73,20 +65,20 @@ pub fn build<const END: u8, R: Threads, S: Inputs>(
     ensures stops { IfErr result (StopsBuilding (S.has inputs.now) (S.fails inputs.now) END
         (map (λ name. name.now) names.now)) }
 {
-    let Ok(gate) = Arc::new(alloc, Open) else {
+    let Ok(gate) = Arc::new(alloc, Begun::new()) else {
         return Err(Stop::Memory);
     };
-    build_through::<END, R, Open, S>(rt, alloc, gate, empty, workers, inputs, names)
+    build_through::<END, R, S>(rt, alloc, gate, empty, workers, inputs, names)
 }
 
-/// The same, where each worker passes this gate before it begins.
+/// The same, where each worker passes this gate before it begins, which counts them.
 ///
 /// # Errors
 /// As `build`.
-pub fn build_through<const END: u8, R: Threads, G: Gate + Send + Sync + Drop + 'static, S: Inputs>(
+pub fn build_through<const END: u8, R: Threads, S: Inputs>(
     rt: &R,
     alloc: Global,
-    gate: Arc<G, Global>,
+    gate: Arc<Begun, Global>,
     empty: BloomFilter,
     workers: usize,
     inputs: &S,
@@ -115,7 +107,7 @@ pub fn build_through<const END: u8, R: Threads, G: Gate + Send + Sync + Drop + '
         workers,
         filter: empty,
     };
-    match filled_from::<END, Crew<'_, R, G>, S>(alloc, key, crew, inputs, names) {
+    match filled_from::<END, Crew<'_, R>, S>(alloc, key, crew, inputs, names) {
         Ok(crew) => Ok(crew.into_filter()),
         Err(stop) => Err(stop),
     }

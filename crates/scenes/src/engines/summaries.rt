@@ -7,7 +7,6 @@ ghost use Rattle.summaries_engine.specs.Answers.{IsKeyed};
 ghost use Rattle.summaries_engine.specs.Sizes.{IsEmpty};
 
 use super::faulty::{Seen, Sink, WHOLE};
-use crate::fills::{Watching, gate_for};
 use crate::telling::{has_text, tell_row};
 use fastbloom::{BloomFilter, FilterError};
 pub(super) use odd::Odd;
@@ -15,10 +14,9 @@ pub(super) use rows::A;
 use rows::{ACTS, Act, Row, UNREAD};
 use std::alloc::Global;
 use std::sync::Arc;
-use std::sync::atomic::Ordering;
 use std::thread::Threads;
 use summaries_engine::{
-    AnyFilter, Stop, Told, ask, build, build_through, classic_with_bits, load, no_json, put,
+    AnyFilter, Begun, Stop, Told, ask, build, build_through, classic_with_bits, load, no_json, put,
     put_file,
 };
 
@@ -180,9 +178,9 @@ fn acts_write_and_stop_as_they_are_to(rt: HostRuntime) {
     assert!(rt; are_carried_out(&rt, &rt));
 }
 
-// A gate that awaits no second worker, seen twice.
-fn gate_of(alloc: Global) -> Result<(Arc<Watching, Global>, Arc<Watching, Global>), FilterError> {
-    let gate = Arc::new(alloc, gate_for(1))?;
+// A gate, seen twice.
+fn gate_of(alloc: Global) -> Result<(Arc<Begun, Global>, Arc<Begun, Global>), FilterError> {
+    let gate = Arc::new(alloc, Begun::new())?;
     let seen = Arc::try_clone(&gate)?;
     Ok((gate, seen))
 }
@@ -192,7 +190,7 @@ fn gate_of(alloc: Global) -> Result<(Arc<Watching, Global>, Arc<Watching, Global
 fn is_built<R: Threads>(
     rt: &R,
     alloc: Global,
-    gate: Arc<Watching, Global>,
+    gate: Arc<Begun, Global>,
     empty: BloomFilter,
     most: usize,
 ) -> bool
@@ -205,7 +203,7 @@ fn is_built<R: Threads>(
         reading: WHOLE,
         seen: &seen,
     };
-    let made = build_through::<10, _, _, _>(rt, alloc, gate, empty, most, &odd, &["first", "odd"]);
+    let made = build_through::<10, _, _>(rt, alloc, gate, empty, most, &odd, &["first", "odd"]);
     let is_built = made.is_ok();
     drop(made);
     is_built
@@ -221,7 +219,7 @@ fn has_workers<R: Threads>(rt: &R, alloc: Global, most: usize, workers: u64) -> 
     match gate_of(alloc) {
         Ok((gate, seen)) => {
             let is_built = is_built(rt, alloc, gate, empty, most);
-            let passes = seen.passes.load(Ordering::SeqCst);
+            let passes = seen.count();
             drop(seen);
             is_built & (passes == workers)
         }
