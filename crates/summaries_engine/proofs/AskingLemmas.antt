@@ -1,10 +1,10 @@
 -- Keys of one input that are asked for one after the other, with the answers written so far.
-use Rattle.std.proofs.Common.{◌≡◌, ℕ, ◌+◌, Bool, false, List, [], ◌∷◌, ◌++◌, filter, flat_map, Ok, Option, refl, sym, subst}
+use Rattle.std.proofs.Common.{◌≡◌, ℕ, ◌+◌, Bool, false, List, [], ◌∷◌, ◌++◌, filter, flat_map, Ok, Err, Option, refl, sym, subst}
 use Rattle.std.proofs.lemmas.Grind.{flat_map-append}
 use Rattle.std.proofs.lemmas.List.Elements.{filter-append}
 use Rattle.std.proofs.KnownBytes.{Appends-kept, Appends-nil, Appends-trans}
 use Rattle.std.proofs.Common.{◌∙◌, ap, length}
-use Rattle.std.specs.Prelude.{IfOk, Result}
+use Rattle.std.specs.Prelude.{IfOk, OnOk, Result}
 use Rattle.std.specs.Io.KnownBytes.{Appends, Keeps}
 use Rattle.summaries_engine.specs.declared.kinds.AnyFilter.{AnyFilter}
 use Rattle.summaries_engine.specs.Kinds.{has_hash}
@@ -77,6 +77,11 @@ answering-next {f = f} {told = told} {end = end} {read = read} {left = left} {re
           (Appends-trans from to more _ _ so_far.text
           (subst (λ k. Appends to more (told_text f told end (k ∷ []))) line wrote));
     }
+
+-- what holds holds where a result is Ok
+pub on-ok : {X E : Type 0} (result : Result X E) (P : Type 0) → P → OnOk result P
+on-ok (Ok x) P holds = holds
+on-ok (Err e) P holds = tt
 
 -- all keys were answered, and the answers flushed
 pub answering-flushed : {f : AnyFilter} {told : Told} {end : ℕ}
