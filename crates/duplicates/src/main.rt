@@ -25,7 +25,7 @@ fn print(rt: &HostRuntime, error: &Error) -> u8 {
     }
     match printed {
         Ok(()) => DONE,
-        Err(error) => tell_unwritten(rt, error.kind()),
+        Err(error) => tell_unwritten(rt, None, error.kind()),
     }
 }
 
@@ -37,11 +37,11 @@ fn refuse(rt: &HostRuntime, text: &str) -> u8 {
 // What words that were read ask for is done; the status.
 fn serve_matched(rt: &HostRuntime, matches: &ArgMatches) -> u8 {
     match request_of(matches) {
-        Some(request) => match run::run(rt, &request) {
+        Ok(request) => match run::run(rt, &request) {
             Ok(status) => status,
             Err(text) => refuse(rt, text),
         },
-        None => refuse(rt, "the rate is a fraction between 0 and 1, as 1/1000"),
+        Err(text) => refuse(rt, text),
     }
 }
 
