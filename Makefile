@@ -117,7 +117,8 @@ install: names all
 	install -m 644 $(ARCHIVE) '$(DESTDIR)$(libdir)'
 	if [ -e out/c/$(SHARED) ]; then \
 	  install out/c/$(SHARED).$(VERSION) '$(DESTDIR)$(libdir)'; \
-	  cp -df out/c/$(SONAME) out/c/$(SHARED) '$(DESTDIR)$(libdir)'; \
+	  ln -sf $(SHARED).$(VERSION) '$(DESTDIR)$(libdir)'/$(SONAME); \
+	  ln -sf $(SONAME) '$(DESTDIR)$(libdir)'/$(SHARED); \
 	fi
 	include=$(call between,$(libdir),$(includedir)); for file in $(DESCRIPTIONS); do \
 	  sed "s|@VERSION@|$(VERSION)|; s|@MAJOR@|$(MAJOR)|; s|@INCLUDE@|$$include|" c/$${file##*/}.in | \

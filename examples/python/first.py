@@ -1,4 +1,4 @@
-"""A first use of the package: `first.py FILE` keeps a filter of texts in a file."""
+"""first.py FILE: keeps a filter of texts in a file."""
 
 import sys
 

@@ -1,4 +1,15 @@
 //! The plain Bloom filter, which its owner changes: its calls, its builders and its laws.
+//!
+//! - `bloom`: `BloomFilter`, with its calls on whole filters (`sets`), items (`items`), many hashes
+//!   (`together`), lists of commands (`command`), rates (`rates`), numbers of items (`estimates`)
+//!   and data (`data`).
+//! - `builder`: the builders by bits, and by a rate (`rate`).
+//! - `queue`: many items, each inserted by its hash into any filter.
+//! - `growing`: `GrowingFilter`, for a number of items that isn't known.
+//! - `rotating`: `RotatingFilter`, for the last items of a stream.
+//! - `file`: the file of a filter: its head (`head`), its layouts (`layout`), and reading and
+//!   writing it in memory (`bytes`) and by streams (`streams`).
+//! - `laws`: the laws of filters.
 #![tactic(auto)]
 
 mod bloom;

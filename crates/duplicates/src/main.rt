@@ -1,4 +1,9 @@
 //! Prints each line of its input that is certainly new.
+//!
+//! - `command_line`: the arguments, by `clap`.
+//! - `files`: files and standard input, as the inputs of `duplicates_engine`.
+//! - `run`: a run over them.
+//! - `telling`, `gauge`: what standard error is told, the statuses, and how full a filter is.
 #![tactic(auto)]
 
 mod command_line;

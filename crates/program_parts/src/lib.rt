@@ -1,4 +1,10 @@
 //! What the programs `duplicates` and `summaries` share.
+//!
+//! - `rows`: arguments as rows of a table, of which `clap` makes its own.
+//! - `values`: rates and keys among them.
+//! - `inputs`: whether an input is the output.
+//! - `output`: standard output, or a file that takes the place of another.
+//! - `progress`: inputs whose lines are counted, as a terminal is told.
 #![tactic(auto)]
 
 mod inputs;

@@ -1,4 +1,15 @@
 //! Tests of the filters, of their parts, and of the programs' engines: what no contract says.
+//!
+//! - `scene`, `rows`, `making`, `follow`: scripted tests. A row says how a plain and a shared
+//!   filter are made, and what both return from the same calls; after each call all words are
+//!   compared.
+//! - `hashing`, `numbers`, `estimates`, `steps`: values from outside, or worked out by hand.
+//! - `blocked`, `growing`, `rotating`, `seated`, `fills`, `files`: one kind of filter, or its
+//!   files.
+//! - `threads`: threads that share a filter.
+//! - `room`: each request for memory refused in turn, by `dev/starve`.
+//! - `engines`: the programs' engines over readers, writers and sieves that fail or are odd.
+//! - `used`: the examples of the pages.
 #![tactic(auto)]
 
 // A scene of a name, how its filters are made, and its lines.
