@@ -1,5 +1,7 @@
-# Builds and installs the programs, the library for C and the Python package (docs/INSTALL.md).
-#   make            proves and builds the programs and the library
+# Builds and installs the programs, the library for C, the extension of SQLite and the Python
+# package (docs/INSTALL.md).
+#   make            proves and builds the programs, the library, and the extension where SQLite's
+#                   headers are
 #   make check      the full check
 #   make install    installs them; DESTDIR goes before each folder
 #   make uninstall  removes what `make install` put there with the same variables
@@ -46,13 +48,16 @@ DESCRIPTIONS = pkgconfig/fastbloom.pc cmake/fastbloom/fastbloom-config.cmake \
 BINARIES = $(foreach it,$(PROGRAMS),crates/$(it)/out/$(it))
 ARCHIVE = out/c/libfastbloom_c.a
 SOURCES := crates.txt $(shell find crates -name out -prune -o -regex '.*\.\(rt\|antt\)' -print)
+EXTENSION = out/c/fastbloom_sqlite.so
+HAS_SQLITE := $(shell $(CC) -include sqlite3ext.h -E -x c /dev/null > /dev/null 2>&1 && echo yes)
 C_SOURCES = bin/build-c $(wildcard c/*) include/fastbloom.symbols $(HEADERS:%=include/%)
 
 # What is installed, beside the Python package.
 SHORT = $(filter yes,$(SHORT_NAMES))
 NAMES = $(PROGRAMS:%=fastbloom-%) $(if $(SHORT),$(PROGRAMS))
 PAGE_NAMES = $(PAGES:%=fastbloom-%) $(if $(SHORT),$(PAGES))
-LIBRARIES = libfastbloom_c.a $(SHARED) $(SONAME) $(SHARED).$(VERSION) $(DESCRIPTIONS)
+LIBRARIES = libfastbloom_c.a $(SHARED) $(SONAME) $(SHARED).$(VERSION) $(DESCRIPTIONS) \
+  $(notdir $(EXTENSION))
 FILES = $(NAMES:%=$(bindir)/%) $(PAGE_NAMES:%=$(mandir)/man1/%.1) $(NAMES:%=$(bashdir)/%) \
   $(PROGRAMS:%=$(zshdir)/_fastbloom-%) $(NAMES:%=$(fishdir)/%.fish) \
   $(HEADERS:%=$(includedir)/%) $(LIBRARIES:%=$(libdir)/%)
@@ -62,7 +67,7 @@ MODULES = '$(DESTDIR)$(pythondir)'/fastbloom '$(DESTDIR)$(pythondir)'/fastbloom-
 between = $(shell realpath -ms --relative-to='$(1)' '$(2)')
 
 .PHONY: all check install man names release uninstall
-all: $(BINARIES) $(ARCHIVE)
+all: $(BINARIES) $(ARCHIVE) $(if $(HAS_SQLITE),$(EXTENSION))
 
 # bin/NAME proves and builds a program that isn't up to date.
 $(BINARIES): $(SOURCES)
@@ -72,6 +77,11 @@ $(BINARIES): $(SOURCES)
 $(ARCHIVE): $(SOURCES) $(C_SOURCES)
 	bin/build-c
 	touch $@
+
+# It has the library in it, and exports nothing but its beginning.
+$(EXTENSION): sqlite/fastbloom_sqlite.c $(ARCHIVE)
+	$(CC) -std=c99 -O2 -Wall -Wextra $(CFLAGS) -fPIC -fvisibility=hidden -shared -Iinclude \
+	  $(LDFLAGS) $^ -Wl,--exclude-libs,ALL,--gc-sections,-z,defs,-z,relro,-z,now -o $@
 
 check: ; .ci/run
 release: ; dev/release '$(LOG)'
@@ -120,6 +130,7 @@ install: names all
 	  ln -sf $(SHARED).$(VERSION) '$(DESTDIR)$(libdir)'/$(SONAME); \
 	  ln -sf $(SONAME) '$(DESTDIR)$(libdir)'/$(SHARED); \
 	fi
+	[ ! -e $(EXTENSION) ] || install -m 644 $(EXTENSION) '$(DESTDIR)$(libdir)'
 	include=$(call between,$(libdir),$(includedir)); for file in $(DESCRIPTIONS); do \
 	  sed "s|@VERSION@|$(VERSION)|; s|@MAJOR@|$(MAJOR)|; s|@INCLUDE@|$$include|" c/$${file##*/}.in | \
 	    install -m 644 /dev/stdin '$(DESTDIR)$(libdir)'/$$file; \

@@ -4,11 +4,12 @@
 _fastbloom_duplicates() {
   local word=$2 before=$3
   case $before in
-    --items | --rate | --longest | --last) COMPREPLY=() ;;
+    --items | --rate | --longest | --last | --key) COMPREPLY=() ;;
     *)
       if [[ $word == -* ]]; then
         mapfile -t COMPREPLY < <(compgen -W '--items --rate --longest --skip-longer --fixed
-          --blocked --last --held-back --count -z --zero -q --quiet -h --help -V --version' \
+          --blocked --last --held-back --count -z --zero -q --quiet --key -o --output -h --help
+          -V --version' \
           -- "$word")
       else
         compopt -o filenames

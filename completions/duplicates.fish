@@ -12,6 +12,8 @@ for name in duplicates fastbloom-duplicates
     complete -c $name -l count -d 'Prints how many lines were read and held back'
     complete -c $name -s z -l zero -d 'Lines end in a zero byte'
     complete -c $name -s q -l quiet -d 'Tells nothing of a run that ends well'
+    complete -c $name -l key -x -d 'The key of the hash'
+    complete -c $name -s o -l output -r -F -d 'Writes this file'
     complete -c $name -s h -l help -d 'Print help'
     complete -c $name -s V -l version -d 'Print version'
 end

@@ -119,6 +119,12 @@ FASTBLOOM_MUST_USE uint8_t fastbloom_expected_rate(size_t num_words, uint32_t nu
 FASTBLOOM_MUST_USE uint8_t fastbloom_rate_bounds(size_t num_words, uint32_t num_hashes,
                                                  size_t items, uint64_t *low, uint64_t *high);
 
+/* How many items a filter takes at the mean rate num / den of false positives: a number at which the
+ * upper bound of fastbloom_rate_bounds isn't above it, while one item more has one that is. It is 0
+ * where num_words is 0 or more than 2^58 - 1, or a part of the rate is 0, and SIZE_MAX where no
+ * number is too many. */
+size_t fastbloom_capacity(size_t num_words, uint32_t num_hashes, uint64_t num, uint64_t den);
+
 /* SipHash-1-3 of exactly these bytes under the key. The key's first eight bytes are the
  * little-endian word k0. The item `Text` of the Rattle library has the same hash. */
 uint64_t fastbloom_hash(const uint8_t key[16], const uint8_t *bytes, size_t len);
@@ -249,8 +255,8 @@ FASTBLOOM_MUST_USE bool fastbloom_rate_now(const uint64_t *words, size_t num_wor
  *
  * Words are a filter of one kind. A hash that was inserted by these calls isn't found by those
  * above, nor the other way round. fastbloom_clear, fastbloom_union, fastbloom_intersect,
- * fastbloom_equal and fastbloom_count_ones are for both kinds. Rates and estimates are of the other
- * kind alone, and each kind has files of its own. */
+ * fastbloom_equal and fastbloom_count_ones are for both kinds. Each kind has rates, estimates and
+ * files of its own. */
 
 /* As fastbloom_plan, for a blocked filter. At one rate it takes more bits than a filter above: 2
  * hundredths more at 8 bits for each item, 4 at 10, 10 at 16, and at most 44. That the rate is met
@@ -259,6 +265,39 @@ FASTBLOOM_MUST_USE bool fastbloom_rate_now(const uint64_t *words, size_t num_wor
 FASTBLOOM_MUST_USE uint8_t fastbloom_blocked_plan(uint64_t num, uint64_t den, size_t items,
                                                   size_t *num_words, uint32_t *num_hashes);
 
+/* Two bounds of the rate of false positives of the filter as it is, as fractions of 2^63, at most two
+ * a hash and one apart: the part of all look-ups, where the line and each position in it are drawn
+ * alike, that return true. It returns true. Where num_words is under 8 or more than 2^58 - 1, it
+ * returns false, and both bounds are 0. */
+FASTBLOOM_MUST_USE bool fastbloom_blocked_rate_now(const uint64_t *words, size_t num_words,
+                                                   uint32_t num_hashes, uint64_t *low,
+                                                   uint64_t *high);
+
+/* As fastbloom_rate_bounds, fastbloom_capacity, fastbloom_estimate, fastbloom_estimate_union,
+ * fastbloom_estimate_common and fastbloom_jaccard, of blocked filters, where each item draws a line,
+ * and positions in it, all alike. Fewer than 8 words count as none. These calls are written in C
+ * with floating point: they are tested and not proved. The bounds of a rate are a part of 10^-12 to
+ * either side of it; beside exact fractions it was wrong by 2 in 10^15 at most. */
+FASTBLOOM_MUST_USE uint8_t fastbloom_blocked_rate_bounds(size_t num_words, uint32_t num_hashes,
+                                                         size_t items, uint64_t *low,
+                                                         uint64_t *high);
+size_t fastbloom_blocked_capacity(size_t num_words, uint32_t num_hashes, uint64_t num,
+                                  uint64_t den);
+FASTBLOOM_MUST_USE bool fastbloom_blocked_estimate(const uint64_t *words, size_t num_words,
+                                                   uint32_t num_hashes, size_t *low, size_t *high);
+FASTBLOOM_MUST_USE bool fastbloom_blocked_estimate_union(const uint64_t *words, size_t num_words,
+                                                         const uint64_t *other, size_t num_other,
+                                                         uint32_t num_hashes, size_t *low,
+                                                         size_t *high);
+FASTBLOOM_MUST_USE bool fastbloom_blocked_estimate_common(const uint64_t *words, size_t num_words,
+                                                          const uint64_t *other, size_t num_other,
+                                                          uint32_t num_hashes, size_t *low,
+                                                          size_t *high);
+FASTBLOOM_MUST_USE bool fastbloom_blocked_jaccard(const uint64_t *words, size_t num_words,
+                                                  const uint64_t *other, size_t num_other,
+                                                  uint32_t num_hashes, uint64_t *low,
+                                                  uint64_t *high);
+
 /* Sets all positions of a hash, and returns whether all were set just before. */
 bool fastbloom_blocked_insert_hash(uint64_t *words, size_t num_words, uint32_t num_hashes,
                                    uint64_t hash);
@@ -266,6 +305,12 @@ bool fastbloom_blocked_insert_hash(uint64_t *words, size_t num_words, uint32_t n
 /* Whether all positions of a hash are set: false means that it was never inserted. */
 bool fastbloom_blocked_contains_hash(const uint64_t *words, size_t num_words, uint32_t num_hashes,
                                      uint64_t hash);
+
+/* The line of a hash, among those of so many words: a number from 0 on. It stands for the words from
+ * 8 * line to 8 * line + 7. These eight words alone are a filter of one line, in which the calls on
+ * this hash do what they do in all words. So lines may be kept anywhere, as in rows of a table, and
+ * only one of them is read for a call. It returns SIZE_MAX where num_words is less than 8. */
+size_t fastbloom_blocked_line(size_t num_words, uint64_t hash);
 
 /* Sets all positions of each of count hashes, and returns true. Of words of a mebibyte and more,
  * the lines of 64 hashes are read together first. */
@@ -369,6 +414,13 @@ FASTBLOOM_MUST_USE bool fastbloom_shared_load(fastbloom_shared words, uint64_t *
 /* The number of positions that are set in the words as they are loaded, one after the other. */
 size_t fastbloom_shared_count_ones(fastbloom_shared words);
 
+/* As fastbloom_estimate and fastbloom_rate_now, of the words as they are loaded, one after the other:
+ * no copy of them is made. */
+FASTBLOOM_MUST_USE bool fastbloom_shared_estimate(fastbloom_shared words, uint32_t num_hashes,
+                                                  size_t *low, size_t *high);
+FASTBLOOM_MUST_USE bool fastbloom_shared_rate_now(fastbloom_shared words, uint32_t num_hashes,
+                                                  uint64_t *low, uint64_t *high);
+
 /* A blocked filter that threads share: the calls above on one line of the words. They keep the rule
  * of the other calls on words that threads share. fastbloom_shared_clear, _union, _intersect,
  * _take, _load and _count_ones are for both kinds of filters. Where there are fewer than 8 words,
@@ -405,6 +457,15 @@ FASTBLOOM_MUST_USE bool
 fastbloom_blocked_shared_insert_hashes_tell_new(fastbloom_shared words, uint32_t num_hashes,
                                                 const uint64_t *hashes, size_t count,
                                                 uint64_t *fresh, size_t num_fresh);
+
+/* As fastbloom_blocked_estimate and fastbloom_blocked_rate_now, of the words as they are loaded, one
+ * after the other. The first is written in C, and not proved. */
+FASTBLOOM_MUST_USE bool fastbloom_blocked_shared_estimate(fastbloom_shared words,
+                                                          uint32_t num_hashes, size_t *low,
+                                                          size_t *high);
+FASTBLOOM_MUST_USE bool fastbloom_blocked_shared_rate_now(fastbloom_shared words,
+                                                          uint32_t num_hashes, uint64_t *low,
+                                                          uint64_t *high);
 
 /* A file is a head of 64 bytes and then the words. All numbers in it are little-endian. */
 
@@ -668,6 +729,47 @@ FASTBLOOM_MUST_USE FASTBLOOM_INLINE bool fastbloom_rate_now_(const uint64_t *wor
                               high);
 }
 
+FASTBLOOM_MUST_USE FASTBLOOM_INLINE bool fastbloom_blocked_estimate_(const uint64_t *words,
+                                                                     size_t num_words,
+                                                                     uint32_t num_hashes,
+                                                                     size_t *low, size_t *high) {
+    return fastbloom_blocked_estimate(fastbloom_read_words_(words, num_words), num_words,
+                                      num_hashes, low, high);
+}
+
+FASTBLOOM_MUST_USE FASTBLOOM_INLINE bool
+fastbloom_blocked_estimate_union_(const uint64_t *words, size_t num_words, const uint64_t *other,
+                                  size_t num_other, uint32_t num_hashes, size_t *low,
+                                  size_t *high) {
+    return fastbloom_blocked_estimate_union(fastbloom_read_words_(words, num_words), num_words,
+                                            fastbloom_read_words_(other, num_other), num_other,
+                                            num_hashes, low, high);
+}
+
+FASTBLOOM_MUST_USE FASTBLOOM_INLINE bool
+fastbloom_blocked_estimate_common_(const uint64_t *words, size_t num_words, const uint64_t *other,
+                                   size_t num_other, uint32_t num_hashes, size_t *low,
+                                   size_t *high) {
+    return fastbloom_blocked_estimate_common(fastbloom_read_words_(words, num_words), num_words,
+                                             fastbloom_read_words_(other, num_other), num_other,
+                                             num_hashes, low, high);
+}
+
+FASTBLOOM_MUST_USE FASTBLOOM_INLINE bool
+fastbloom_blocked_jaccard_(const uint64_t *words, size_t num_words, const uint64_t *other,
+                           size_t num_other, uint32_t num_hashes, uint64_t *low, uint64_t *high) {
+    return fastbloom_blocked_jaccard(fastbloom_read_words_(words, num_words), num_words,
+                                     fastbloom_read_words_(other, num_other), num_other, num_hashes,
+                                     low, high);
+}
+
+FASTBLOOM_MUST_USE FASTBLOOM_INLINE bool
+fastbloom_blocked_rate_now_(const uint64_t *words, size_t num_words, uint32_t num_hashes,
+                            uint64_t *low, uint64_t *high) {
+    return fastbloom_blocked_rate_now(fastbloom_read_words_(words, num_words), num_words,
+                                      num_hashes, low, high);
+}
+
 FASTBLOOM_INLINE bool fastbloom_blocked_insert_hash_(uint64_t *words, size_t num_words,
                                                      uint32_t num_hashes, uint64_t hash) {
     return fastbloom_blocked_insert_hash(fastbloom_words_(words, num_words), num_words, num_hashes,
@@ -849,6 +951,11 @@ FASTBLOOM_INLINE void fastbloom_hasher_update_(fastbloom_hasher *hasher, const u
 #define fastbloom_estimate_common fastbloom_estimate_common_
 #define fastbloom_jaccard fastbloom_jaccard_
 #define fastbloom_rate_now fastbloom_rate_now_
+#define fastbloom_blocked_estimate fastbloom_blocked_estimate_
+#define fastbloom_blocked_estimate_union fastbloom_blocked_estimate_union_
+#define fastbloom_blocked_estimate_common fastbloom_blocked_estimate_common_
+#define fastbloom_blocked_jaccard fastbloom_blocked_jaccard_
+#define fastbloom_blocked_rate_now fastbloom_blocked_rate_now_
 #define fastbloom_blocked_insert_hash fastbloom_blocked_insert_hash_
 #define fastbloom_blocked_insert_hashes fastbloom_blocked_insert_hashes_
 #define fastbloom_blocked_contains_hash fastbloom_blocked_contains_hash_

@@ -210,6 +210,15 @@ struct store {
 // The calls of the library on one kind of filters.
 #define FASTBLOOM_KIND_(name, prefix)                                                              \
     struct name {                                                                                  \
+        static constexpr auto rate_bounds = prefix##rate_bounds;                                   \
+        static constexpr auto rate_now = prefix##rate_now;                                         \
+        static constexpr auto capacity = prefix##capacity;                                         \
+        static constexpr auto estimate = prefix##estimate;                                         \
+        static constexpr auto estimate_union = prefix##estimate_union;                             \
+        static constexpr auto estimate_common = prefix##estimate_common;                           \
+        static constexpr auto jaccard = prefix##jaccard;                                           \
+        static constexpr auto shared_rate_now = prefix##shared_rate_now;                           \
+        static constexpr auto shared_estimate = prefix##shared_estimate;                           \
         static constexpr auto plan = prefix##plan;                                                 \
         static constexpr auto head_read = prefix##head_read;                                       \
         static constexpr auto head_write = prefix##head_write;                                     \
@@ -238,20 +247,23 @@ FASTBLOOM_KIND_(lines, fastbloom_blocked_);
 
 // The calls that read words, which no thread changes meanwhile.
 template <typename Kind> struct of_plain {
-    static bool contains(const store &at, const void *bytes, std::size_t size) noexcept {
-        return Kind::contains(at.words, at.num_words, at.num_hashes, at.key.data(), not_null(bytes),
-                              size);
-    }
-    static bool contains_hash(const store &at, std::uint64_t hash) noexcept {
-        return Kind::contains_hash(at.words, at.num_words, at.num_hashes, hash);
-    }
-    static bool contains_hashes(const store &at, const std::uint64_t *hashes, std::size_t count,
-                                std::uint64_t *found, std::size_t num_found) noexcept {
-        return Kind::contains_hashes(at.words, at.num_words, at.num_hashes, hashes, count, found,
-                                     num_found);
+    using kind = Kind;
+    static constexpr auto contains = Kind::contains;
+    static constexpr auto contains_hash = Kind::contains_hash;
+    static constexpr auto contains_hashes = Kind::contains_hashes;
+    static constexpr auto rate_now = Kind::rate_now;
+    static constexpr auto estimate = Kind::estimate;
+    template <typename Call, typename... More>
+    static auto make(Call call, const store &at, More... more) noexcept {
+        return call(at.words, at.num_words, at.num_hashes, more...);
     }
     static std::size_t count_ones(const store &at) noexcept {
         return fastbloom_count_ones(at.words, at.num_words);
+    }
+    // Words from an index on, for which there is room.
+    static const std::uint64_t *words(const store &at, std::size_t index, std::size_t,
+                                      std::uint64_t *) noexcept {
+        return at.words + index;
     }
 };
 
@@ -329,7 +341,7 @@ public:
     }
     bool contains(std::nullptr_t) const = delete;
     bool contains(const void *bytes, std::size_t size) const noexcept {
-        return Calls::contains(store_, bytes, size);
+        return Calls::make(Calls::contains, store_, store_.key.data(), not_null(bytes), size);
     }
 
     // The hash of an item: SipHash-1-3 of its bytes under the key.
@@ -343,7 +355,7 @@ public:
 
     // Whether the item of a hash is contained.
     bool contains_hash(std::uint64_t hash) const noexcept {
-        return Calls::contains_hash(store_, hash);
+        return Calls::make(Calls::contains_hash, store_, hash);
     }
 
     // A hasher under the key of this filter, for the hash of an item that comes in pieces.
@@ -365,8 +377,8 @@ public:
     // than bits, or the filter has no words, it returns false and changes nothing.
     [[nodiscard]] bool contains_hashes(const std::uint64_t *hashes, std::size_t count,
                                        std::uint64_t *found, std::size_t num_found) const noexcept {
-        return Calls::contains_hashes(store_, not_null_words(hashes), count, not_null_words(found),
-                                      num_found);
+        return Calls::make(Calls::contains_hashes, store_, not_null_words(hashes), count,
+                           not_null_words(found), num_found);
     }
 
 #ifdef __cpp_lib_span
@@ -409,10 +421,72 @@ public:
     // How many bits are set; where threads share the words, as they are loaded.
     std::size_t count_ones() const noexcept { return Calls::count_ones(store_); }
 
+    // Two bounds of the mean rate of false positives once this many items are in the filter, and
+    // how many it takes at the rate num / den: with one more a bound is above it. They are proved
+    // but of a blocked filter. One with no words has no bounds, and takes 0.
+    result<rate_bounds> false_positive_bounds(std::size_t items) const noexcept {
+        return bounds_of(Calls::kind::rate_bounds, items);
+    }
+    std::size_t capacity_for(std::uint64_t num, std::uint64_t den) const noexcept {
+        return Calls::kind::capacity(store_.num_words, store_.num_hashes, num, den);
+    }
+
+    // Two bounds of the filter as it is: of its rate of false positives, which are proved, and of
+    // the number of items, at which as many bits are expected to be set. These are proved but of a
+    // blocked filter, and nothing is claimed of how far the number of items that were inserted may
+    // lie from it. A filter with no words has none.
+    std::optional<rate_bounds> false_positive_rate() const noexcept {
+        rate_bounds rate{};
+        if (!Calls::make(Calls::rate_now, store_, &rate.low, &rate.high)) return std::nullopt;
+        return rate;
+    }
+    std::optional<item_bounds> estimated_items() const noexcept {
+        return items([this](std::size_t *low, std::size_t *high) {
+            return Calls::make(Calls::estimate, store_, low, high);
+        });
+    }
+
+    // Whether both have one shape, and the other all set bits of this one, so that it contains all
+    // items of this one. The words that threads share are loaded one after the other.
+    bool is_subset(const Derived &other) const noexcept {
+        std::uint64_t room[2][64];
+        if (!same_shape(other)) return false;
+        for (std::size_t at = 0; at < store_.num_words; at += 64) {
+            const std::size_t rest = store_.num_words - at, count = rest < 64 ? rest : 64;
+            const std::uint64_t *few = Calls::words(store_, at, count, room[0]);
+            const std::uint64_t *all = Calls::words(access::of(other), at, count, room[1]);
+            for (std::size_t i = 0; i < count; i++)
+                if ((few[i] & ~all[i]) != 0) return false;
+        }
+        return true;
+    }
+    friend bool operator<=(const Derived &one, const Derived &other) noexcept {
+        return one.is_subset(other);
+    }
+    friend bool operator>=(const Derived &one, const Derived &other) noexcept {
+        return other.is_subset(one);
+    }
+
 protected:
     friend struct access;
 
     reader() noexcept = default;
+
+    // The bounds that a call of the library hands out, unless it returns why not, or false.
+    template <typename Call>
+    result<rate_bounds> bounds_of(Call call, std::size_t items) const noexcept {
+        rate_bounds bounds{};
+        const std::uint8_t code =
+            call(store_.num_words, store_.num_hashes, items, &bounds.low, &bounds.high);
+        if (code != FASTBLOOM_OK) return static_cast<status>(code);
+        return bounds;
+    }
+    template <typename Call> static std::optional<item_bounds> items(Call call) noexcept {
+        std::size_t low = 0, high = 0;
+        if (!call(&low, &high)) return std::nullopt;
+        if (high == SIZE_MAX) return item_bounds{low, std::nullopt};
+        return item_bounds{low, high};
+    }
 
     store store_;
 };
@@ -583,6 +657,26 @@ public:
         return !(one == other);
     }
 
+    // Two bounds of the number of items, as of `estimated_items`: in the union of both, which isn't
+    // made, and in common to both. There are none where the shapes differ or there are no words.
+    std::optional<item_bounds> estimated_union(const Derived &other) const noexcept {
+        return items_of(other, Kind::estimate_union);
+    }
+    std::optional<item_bounds> estimated_common(const Derived &other) const noexcept {
+        return items_of(other, Kind::estimate_common);
+    }
+
+    // Two bounds of the part of the items of both filters that they have in common, as fractions of
+    // 2^63. There are none where the shapes differ or there are no words.
+    std::optional<rate_bounds> jaccard(const Derived &other) const noexcept {
+        rate_bounds bounds{};
+        if (!this->same_shape(other) ||
+            !Kind::jaccard(store_.words, store_.num_words, other.store_.words,
+                           other.store_.num_words, store_.num_hashes, &bounds.low, &bounds.high))
+            return std::nullopt;
+        return bounds;
+    }
+
     // The words. In a file they are behind the head, as they are in memory.
     const std::uint64_t *data() const noexcept { return store_.words; }
 
@@ -606,6 +700,16 @@ protected:
     }
 
 private:
+    // The bounds of a call on this filter and another one.
+    template <typename Call>
+    std::optional<item_bounds> items_of(const Derived &other, Call call) const noexcept {
+        if (!this->same_shape(other)) return std::nullopt;
+        return this->items([&](std::size_t *low, std::size_t *high) {
+            return call(store_.words, store_.num_words, other.store_.words, other.store_.num_words,
+                        store_.num_hashes, low, high);
+        });
+    }
+
     std::uint64_t seal() const noexcept {
         return Kind::seal(store_.words, store_.num_words, store_.num_hashes, store_.key.data());
     }
@@ -665,78 +769,10 @@ public:
         return detail::access::zeros<filter>(num_words, num_hashes, key);
     }
 
-    // Two bounds of the rate of false positives to expect once this many items are in the filter:
-    // by the classical formula, which is a little below the mean rate, and of that mean rate. A
-    // filter with no words has none.
+    // Two bounds of the rate of false positives to expect once this many items are in the filter, by
+    // the classical formula, which is a little below the mean rate. A filter with no words has none.
     result<rate_bounds> expected_rate(std::size_t items) const noexcept {
-        rate_bounds bounds{};
-        const std::uint8_t code = fastbloom_expected_rate(store_.num_words, store_.num_hashes,
-                                                          items, &bounds.low, &bounds.high);
-        if (code != FASTBLOOM_OK) return static_cast<fastbloom::status>(code);
-        return bounds;
-    }
-    result<rate_bounds> false_positive_bounds(std::size_t items) const noexcept {
-        rate_bounds bounds{};
-        const std::uint8_t code = fastbloom_rate_bounds(store_.num_words, store_.num_hashes, items,
-                                                        &bounds.low, &bounds.high);
-        if (code != FASTBLOOM_OK) return static_cast<fastbloom::status>(code);
-        return bounds;
-    }
-
-    // Two bounds of the rate of false positives of the filter as it is. A filter with no words has
-    // none.
-    std::optional<rate_bounds> false_positive_rate() const noexcept {
-        rate_bounds bounds{};
-        if (!fastbloom_rate_now(store_.words, store_.num_words, store_.num_hashes, &bounds.low,
-                                &bounds.high))
-            return std::nullopt;
-        return bounds;
-    }
-
-    // Two bounds of the number of items: in the filter, in the union of both, which isn't made, and
-    // in common to both. It is the number at which as many bits are expected to be set. Nothing is
-    // claimed of how far the number of items that were inserted may lie from it. There are none
-    // where the shapes differ or there are no words.
-    std::optional<item_bounds> estimated_items() const noexcept {
-        return items([this](std::size_t &low, std::size_t &high) {
-            return fastbloom_estimate(store_.words, store_.num_words, store_.num_hashes, &low,
-                                      &high);
-        });
-    }
-    std::optional<item_bounds> estimated_union(const filter &other) const noexcept {
-        if (!same_shape(other)) return std::nullopt;
-        return items([&](std::size_t &low, std::size_t &high) {
-            return fastbloom_estimate_union(store_.words, store_.num_words, other.store_.words,
-                                            other.store_.num_words, store_.num_hashes, &low, &high);
-        });
-    }
-    std::optional<item_bounds> estimated_common(const filter &other) const noexcept {
-        if (!same_shape(other)) return std::nullopt;
-        return items([&](std::size_t &low, std::size_t &high) {
-            return fastbloom_estimate_common(store_.words, store_.num_words, other.store_.words,
-                                             other.store_.num_words, store_.num_hashes, &low,
-                                             &high);
-        });
-    }
-
-    // Two bounds of the part of the items of both filters that they have in common, as fractions of
-    // 2^63. There are none where the shapes differ or there are no words.
-    std::optional<rate_bounds> jaccard(const filter &other) const noexcept {
-        rate_bounds bounds{};
-        if (!same_shape(other) || !fastbloom_jaccard(store_.words, store_.num_words,
-                                                     other.store_.words, other.store_.num_words,
-                                                     store_.num_hashes, &bounds.low, &bounds.high))
-            return std::nullopt;
-        return bounds;
-    }
-
-private:
-    // The bounds that a call of the library hands out, unless it returns false.
-    template <typename Call> static std::optional<item_bounds> items(Call call) noexcept {
-        std::size_t low = 0, high = 0;
-        if (!call(low, high)) return std::nullopt;
-        if (high == SIZE_MAX) return item_bounds{low, std::nullopt};
-        return item_bounds{low, high};
+        return bounds_of(fastbloom_expected_rate, items);
     }
 };
 

@@ -8,15 +8,9 @@
 //
 // All bits of an item lie in one line of 512, which is a line of the cache. So where a filter is
 // larger than the cache, a call on an item is quicker than that of `fastbloom::filter`, which takes
-// fewer bits at the same rate. The two kinds aren't united, and neither reads the other's file. A
-// blocked filter has no estimates here.
-//
-// A filter owns its words. It moves, and it is copied by `clone` alone. Nothing here throws: a call
-// that can fail returns a `result`, or a bool. A filter that was moved from, or made by default,
-// has no words: it contains nothing, and an insert changes nothing.
-//
-// Threads may read one filter at once. While a thread changes it, no other touches it. The filter
-// that threads share is in fastbloom_blocked_shared.hpp.
+// fewer bits at the same rate. The two kinds aren't united, and neither reads the other's file.
+// What fastbloom.hpp says at its beginning holds here too. The filter that threads share is in
+// fastbloom_blocked_shared.hpp.
 #ifndef FASTBLOOM_BLOCKED_HPP
 #define FASTBLOOM_BLOCKED_HPP
 

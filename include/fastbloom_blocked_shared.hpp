@@ -7,15 +7,7 @@
 //     seen.insert("crab");   // false: this call set a bit
 //     seen.contains("crab"); // true
 //
-// Each call is const, also those that insert: any number of threads may make them at once. None
-// takes a lock or waits for a thread. An insert's | on a word is tried again only where another
-// thread changed that word in between, so some thread always gets on (lock-free). A move, a swap and
-// the end of the filter are no such calls: no other thread uses the filter meanwhile.
-//
-// A filter owns its words, or maps them from a file, or lies over words of the caller's: `over`
-// takes them, in memory that processes share. Then the caller keeps what fastbloom.h asks for: the
-// words are aligned to 8, and best to 64, stay where they are, and are touched by shared filters
-// alone until the last call on them has returned.
+// What fastbloom_shared.hpp says at its beginning holds here too. Words are best aligned to 64.
 #ifndef FASTBLOOM_BLOCKED_SHARED_HPP
 #define FASTBLOOM_BLOCKED_SHARED_HPP
 

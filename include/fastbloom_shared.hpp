@@ -28,20 +28,23 @@ namespace detail {
 
 // The calls that read words, while other threads change them.
 template <typename Kind> struct of_shared {
-    static bool contains(const store &at, const void *bytes, std::size_t size) noexcept {
-        return Kind::shared_contains(at.shared(), at.num_hashes, at.key.data(), not_null(bytes),
-                                     size);
-    }
-    static bool contains_hash(const store &at, std::uint64_t hash) noexcept {
-        return Kind::shared_contains_hash(at.shared(), at.num_hashes, hash);
-    }
-    static bool contains_hashes(const store &at, const std::uint64_t *hashes, std::size_t count,
-                                std::uint64_t *found, std::size_t num_found) noexcept {
-        return Kind::shared_contains_hashes(at.shared(), at.num_hashes, hashes, count, found,
-                                            num_found);
+    using kind = Kind;
+    static constexpr auto contains = Kind::shared_contains;
+    static constexpr auto contains_hash = Kind::shared_contains_hash;
+    static constexpr auto contains_hashes = Kind::shared_contains_hashes;
+    static constexpr auto rate_now = Kind::shared_rate_now;
+    static constexpr auto estimate = Kind::shared_estimate;
+    template <typename Call, typename... More>
+    static auto make(Call call, const store &at, More... more) noexcept {
+        return call(at.shared(), at.num_hashes, more...);
     }
     static std::size_t count_ones(const store &at) noexcept {
         return fastbloom_shared_count_ones(at.shared());
+    }
+    static const std::uint64_t *words(const store &at, std::size_t index, std::size_t count,
+                                      std::uint64_t *room) noexcept {
+        (void)fastbloom_shared_load({at.words + index, count}, room, count);
+        return room;
     }
 };
 

@@ -83,7 +83,14 @@ def refused_files(file):
         7: [changed(file, 8, 0), changed(file, 12, 1)],
         9: [b"", file[:7], changed(file, 0, 70)],
         10: [changed(file, 7, 50)],
-        11: [file[:8], file[:63], file[:64], file[:-1], changed(file, 48, 0)[:-1], part[:119]],
+        11: [
+            file[:8],
+            file[:63],
+            file[:64],
+            file[:-1],
+            changed(file, 48, 0)[:-1],
+            part[:119],
+        ],
         12: [file + b"\0", part, changed(file, 48, 0) + b"\0"],
         13: [changed(file, 48, 2), changed(file, 49, 1), changed(file, 63, 128)],
         14: [changed(file, place, 1) for place in (8, 24, 39, 40, 64, len(file) - 1)],
@@ -151,7 +158,8 @@ class Blocked(unittest.TestCase):
     def test_sizes(self):
         seen = small()
         self.assertEqual(
-            (seen.num_words, seen.num_lines, seen.num_bits, seen.num_hashes), (248, 31, 15872, 9)
+            (seen.num_words, seen.num_lines, seen.num_bits, seen.num_hashes),
+            (248, 31, 15872, 9),
         )
         self.assertEqual(BlockedFilter(10**6, "1/100").num_words, 156048)
         self.assertEqual(ctypes.addressof(ctypes.c_char.from_buffer(seen._view)) % 64, 0)
@@ -189,7 +197,8 @@ class Blocked(unittest.TestCase):
         one, other = small("crab", "lobster"), small("lobster", "whale")
         self.assertEqual((one | other).contains_many(["crab", "lobster", "whale"]), [True] * 3)
         self.assertEqual(
-            (one & other).contains_many(["crab", "lobster", "whale"]), [False, True, False]
+            (one & other).contains_many(["crab", "lobster", "whale"]),
+            [False, True, False],
         )
         united = one.copy()
         united |= other
@@ -238,7 +247,11 @@ class Blocked(unittest.TestCase):
         self.assertEqual([bytes(it.raw()) for it in buffers], [bytes(seen.view())])
         seen.add("whale")
         self.assertEqual(bytes(buffers[0].raw()), bytes(seen.view()))
-        for given in (buffers, [bytes(buffers[0].raw())], [bytearray(buffers[0].raw())]):
+        for given in (
+            buffers,
+            [bytes(buffers[0].raw())],
+            [bytearray(buffers[0].raw())],
+        ):
             read = pickle.loads(data, buffers=given)
             self.assertEqual((read, read.key), (seen, seen.key))
             read.clear()
@@ -246,14 +259,22 @@ class Blocked(unittest.TestCase):
 
     def test_a_pickle_of_no_filter_is_refused(self):
         restored = fastbloom._plain._restored_words
-        for hashes, words in ((0, bytes(64)), (2**32, bytes(64)), (1, b""), (1, bytes(65))):
+        for hashes, words in (
+            (0, bytes(64)),
+            (2**32, bytes(64)),
+            (1, b""),
+            (1, bytes(65)),
+        ):
             self.assertRaises(ValueError, restored, BlockedFilter, hashes, bytes(16), words)
         self.assertRaises(ValueError, restored, BlockedFilter, 1, bytes(15), bytes(64))
         self.assertRaises(TypeError, restored, BlockedFilter, 1, bytes(16), 64)
 
     def test_what_is_refused(self):
         seen = small("crab")
-        for other in (BlockedFilter(10, "1/1000"), BlockedFilter(1000, "1/1000", bytes(15) + b"1")):
+        for other in (
+            BlockedFilter(10, "1/1000"),
+            BlockedFilter(1000, "1/1000", bytes(15) + b"1"),
+        ):
             self.assertRaises(ValueError, seen.__ior__, other)
             self.assertRaises(ValueError, seen.update, ["whale"], other)
         plain = Filter(1000, "1/1000")
@@ -285,9 +306,10 @@ class Rates(unittest.TestCase):
             (one, 2, Fraction(1, 2**18)),
             (one + full + empty + empty, 1, Fraction(513, 2048)),
         ):
-            seen = SharedBlockedFilter.over(bytearray(lines), hashes).take()
-            self.assertEqual(seen.exact_false_positive_rate(), (wanted, wanted))
-            self.assertEqual(seen.false_positive_rate(), (wanted, wanted))
+            shared = SharedBlockedFilter.over(bytearray(lines), hashes)
+            for seen in (shared, shared.load()):
+                self.assertEqual(seen.exact_false_positive_rate(), (wanted, wanted))
+                self.assertEqual(seen.false_positive_rate(), (wanted, wanted))
         seen = SharedBlockedFilter.over(bytearray(one + empty + empty), 1).take()
         low, high = seen.exact_false_positive_rate()
         self.assertTrue(low < Fraction(1, 1536) < high and high - low == Fraction(1, 2**63))
@@ -299,8 +321,8 @@ class Rates(unittest.TestCase):
             self.assertEqual((seen.estimate(), seen.approx_items), ((354, 355), 354.5))
         self.assertEqual(BlockedFilter(10, "1/2").estimate(), (0, 0))
         full = SharedBlockedFilter.over(bytearray(b"\xff" * 64), 1).load()
-        self.assertEqual((full.estimate(), full.approx_items), ((0, None), math.inf))
-        self.assertEqual(half.load().estimated_union(full), (0, None))
+        self.assertEqual((full.estimate(), full.approx_items), ((WORD - 1, None), math.inf))
+        self.assertEqual(half.load().estimated_union(full), (WORD - 1, None))
         self.assertEqual(half.load().estimated_common(full), (0, None))
         self.assertEqual(full.estimated_common(half.load()), (0, None))
         self.assertEqual(half.load().estimated_common(half.load()), (353, 356))
@@ -328,6 +350,55 @@ class Rates(unittest.TestCase):
             self.assertLessEqual(abs(seen.capacity_for(rate) - wanted), 1)
             self.assertEqual(seen.load().capacity_for(rate), seen.capacity_for(rate))
 
+    def test_the_mean_rate_of_lines(self):
+        """By exact fractions: over how many items a line draws, and how many of its bits these."""
+        for lines, hashes, items, wanted in (
+            (1, 1, 1, 1 / 512),
+            (1, 8, 10, 1.9775794994280592e-07),
+            (2, 3, 5, 4.899430465457505e-06),
+            (31, 9, 1000, 0.0008727198074233734),
+            (200, 6, 10_000, 0.008751541284288553),
+        ):
+            shared = SharedBlockedFilter.over(bytearray(64 * lines), hashes)
+            for seen in (shared, shared.load()):
+                low, high = seen.expected_false_positive_rate(items)
+                self.assertTrue(low <= wanted <= high and high - low < 3e-12 * wanted)
+                self.assertEqual(seen.exact_expected_false_positive_rate(0), (0, 0))
+        self.assertEqual(seen.expected_false_positive_rate(WORD - 1)[1], 1)
+        for items in (-1, WORD):
+            self.assertRaises(ValueError, seen.expected_false_positive_rate, items)
+        small = SharedBlockedFilter.over(bytearray(64 * 31), 9)
+        self.assertEqual((small.capacity_for("1/1000"), small.capacity_for(0)), (1023, 0))
+
+    def test_shared_lines_are_not_copied_to_tell_of_them(self):
+        seen = SharedBlockedFilter(10_000, "1/1000")
+        seen.add_hashes(row(1, 0, 10_000))
+        plain = seen.load()
+        with mock.patch.object(fastbloom._plain.Plain, "_of", side_effect=MemoryError):
+            self.assertEqual(seen.exact_false_positive_rate(), plain.exact_false_positive_rate())
+            self.assertEqual(
+                (seen.estimate(), seen.count_ones()),
+                (plain.estimate(), plain.count_ones()),
+            )
+        self.assertTrue(9_900 < seen.approx_items < 10_100)
+        seen.release()
+        for call in (seen.exact_false_positive_rate, seen.estimate):
+            self.assertRaises(Refusal, call)
+
+    def test_what_two_have_in_common(self):
+        """Of 40,000 items both have half, which is a third of all."""
+        for filters in (BlockedFilter, SharedBlockedFilter, SharedFilter):
+            seen, other = filters(100_000, "1/1000"), filters(100_000, "1/1000")
+            seen.add_hashes(row(1, 0, 40_000))
+            other.add_hashes(row(1, 20_000, 40_000))
+            low, high = seen.jaccard(other)
+            self.assertTrue(0.32 < low <= high < 0.35, (filters, float(low), float(high)))
+            low, high = seen.estimated_common(other)
+            self.assertTrue(19_500 < low <= high < 20_500, (filters, low, high))
+            self.assertEqual(filters(10, "1/2").jaccard(filters(10, "1/2")), (0, 1))
+            self.assertRaises(ValueError, seen.jaccard, filters(10, "1/2"))
+            self.assertRaises(TypeError, seen.jaccard, {"crab"})
+
     def test_sets(self):
         few, more = small("crab"), small("crab", "eel")
         self.assertTrue(few <= more and few < more and more > few and few.issubset(more))
@@ -338,9 +409,19 @@ class Rates(unittest.TestCase):
         kept.intersection_update(few)
         self.assertEqual(kept, few)
         for other in (Filter(1000, "1/1000"), {"crab"}):
-            for call in (few.issubset, few.issuperset, few.estimated_union, few.estimated_common):
+            for call in (
+                few.issubset,
+                few.issuperset,
+                few.estimated_union,
+                few.estimated_common,
+            ):
                 self.assertRaises(TypeError, call, other)
-        for call in (few.issubset, few.estimated_union, few.estimated_common, few.union):
+        for call in (
+            few.issubset,
+            few.estimated_union,
+            few.estimated_common,
+            few.union,
+        ):
             self.assertRaises(ValueError, call, BlockedFilter(10, "1/2"))
 
 
@@ -455,7 +536,8 @@ class Shared(unittest.TestCase):
     def test_sizes_are_those_of_plain_ones(self):
         seen = SharedBlockedFilter(1000, "1/1000", bytes(range(16)))
         self.assertEqual(
-            (seen.num_words, seen.num_lines, seen.num_bits, seen.num_hashes), (248, 31, 15872, 9)
+            (seen.num_words, seen.num_lines, seen.num_bits, seen.num_hashes),
+            (248, 31, 15872, 9),
         )
         self.assertEqual((seen._words[0].words % 64, seen.key), (0, bytes(range(16))))
         self.assertEqual(repr(seen), "<SharedBlockedFilter: 15872 bits, 9 hashes, a key>")
@@ -467,7 +549,8 @@ class Shared(unittest.TestCase):
         other.add("lobster")
         seen.update(["eel"], other, iter(()))
         self.assertEqual(
-            seen.contains_many(["crab", "eel", "lobster", "whale"]), [True, True, True, False]
+            seen.contains_many(["crab", "eel", "lobster", "whale"]),
+            [True, True, True, False],
         )
         self.assertIsInstance(seen, AnyFilter)
         seen |= other

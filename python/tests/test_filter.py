@@ -460,7 +460,7 @@ class Sizes(unittest.TestCase):
         self.assertRaises(TypeError, one.expected_false_positive_rate, 1.5)
 
     def test_an_estimate_is_that_of_the_bits_that_are_on(self):
-        # Of 64 bits one is expected to be on after one hash, 1.98 after two, 2.95 after three.
+        # Of 64 bits one is expected to be set after one hash, 1.98 after two, 2.95 after three.
         for bits, hashes, wanted in (
             (0, 1, (0, 0)),
             (1, 1, (1, 1)),

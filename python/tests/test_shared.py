@@ -235,6 +235,9 @@ class Calls(unittest.TestCase):
             seen = filters(1000, "1/1000")
             seen.update(f"item{number}" for number in range(500))
             plain = seen.load()
+            for call in ("exact_false_positive_rate", "expected_false_positive_rate"):
+                more = (500,) if "expected" in call else ()
+                self.assertEqual(getattr(seen, call)(*more), getattr(plain, call)(*more))
             self.assertEqual(seen.estimate(), plain.estimate())
             self.assertEqual(seen.approx_items, plain.approx_items)
             self.assertEqual(seen.false_positive_rate(), plain.false_positive_rate())

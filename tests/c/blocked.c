@@ -134,6 +134,34 @@ static void try_bytes(void) {
     wants("words by shared bytes", 1, fastbloom_equal(by_shared, 3 * LINE, by_hash, 3 * LINE));
 }
 
+/* The line of a hash, and the calls on its eight words alone, which do what they do in all words. */
+static void try_lines(void) {
+    __extension__ typedef unsigned __int128 wide;
+    enum { MOST = 40, K = 7 };
+    uint64_t all[MOST * LINE], kept[MOST * LINE];
+    wants("no line of 0 words", SIZE_MAX, fastbloom_blocked_line(0, 5));
+    wants("no line of 7 words", SIZE_MAX, fastbloom_blocked_line(LINE - 1, UINT64_MAX));
+    wants("a line of all words", (UINT64_C(1) << 61) - 2,
+          fastbloom_blocked_line(SIZE_MAX, UINT64_MAX));
+    for (size_t lines = 1; lines <= MOST; lines++) {
+        memset(all, 0, sizeof all), memset(kept, 0, sizeof kept);
+        for (uint64_t i = 0; i < 20 * lines; i++) {
+            uint64_t hash = i == 0 ? UINT64_MAX : i == 1 ? 0 : drawn(lines, i);
+            size_t words = LINE * lines + i % LINE;
+            size_t line = fastbloom_blocked_line(words, hash);
+            wants("a line", (uint64_t)((wide)hash * lines >> 64), line);
+            if (line >= lines) continue;
+            wants("a look-up in a line alone",
+                  fastbloom_blocked_contains_hash(all, words - i % LINE, K, hash),
+                  fastbloom_blocked_contains_hash(kept + LINE * line, LINE, K, hash));
+            wants("an insert into a line alone",
+                  fastbloom_blocked_insert_hash(all, words - i % LINE, K, hash),
+                  fastbloom_blocked_insert_hash(kept + LINE * line, LINE, K, hash));
+        }
+        wants("lines alone", 0, (uint64_t)(memcmp(all, kept, sizeof all) != 0));
+    }
+}
+
 /* Plans, of which a program in Python computed the numbers, and refusals. */
 static void try_plans(void) {
     static const struct {
@@ -237,6 +265,176 @@ static int try_files(bool makes, char **paths) {
     return wrong;
 }
 
+/* Lines of which so many bits are set, and words behind them that are no part of the filter. */
+static const int ones_of[] = {0, 1, 256, 511, 512};
+enum { NUM_LINES = 5, NUM_WORDS = 8 * NUM_LINES + 3 };
+
+static void set_ones(uint64_t words[NUM_WORDS]) {
+    memset(words, 0xff, NUM_WORDS * sizeof *words);
+    for (int line = 0; line < NUM_LINES; line++)
+        for (int bit = ones_of[line]; bit < 512; bit++)
+            words[8 * line + bit / 64] &= ~(UINT64_C(1) << bit % 64);
+}
+
+/* Rates of filters as they are, by exact fractions of Python rounded down and up, at most two units
+ * of 2^-63 a hash and one apart. Shared words tell the same. */
+static void try_rates_now(void) {
+    static const struct {
+        uint32_t hashes;
+        uint64_t down, up;
+    } rows[] = {{0, 4611686018427387904, 4611686018427387904},
+                {1, 4611686018427387904, 4611686018427387904},
+                {7, 3678687469901080883, 3678687469901080884},
+                {9, 3660777953494258885, 3660777953494258886},
+                {16, 3632567663985038305, 3632567663985038306},
+                {64, 3472394890546466877, 3472394890546466878}};
+    uint64_t words[NUM_WORDS], low, high, first, last;
+    set_ones(words);
+    const fastbloom_shared shared = {words, NUM_WORDS}, few = {words, 7},
+                           many = {words, (size_t)1 << 58};
+    for (size_t i = 0; i < sizeof rows / sizeof *rows; i++) {
+        const uint32_t hashes = rows[i].hashes;
+        wants("a rate", 1, fastbloom_blocked_rate_now(words, NUM_WORDS, hashes, &low, &high));
+        wants("bounds", 1, low <= rows[i].down && rows[i].up <= high);
+        wants("near bounds", 1, high - low <= 2 * (hashes == 0 ? 1 : hashes) + 1);
+        wants("shared", 1, fastbloom_blocked_shared_rate_now(shared, hashes, &first, &last));
+        wants("the same", 1, first == low && last == high);
+    }
+    wants("few", 0, fastbloom_blocked_rate_now(words, 7, 7, &low, &high) || low != 0 || high != 0);
+    low = high = 5;
+    wants("many", 0, fastbloom_blocked_rate_now(words, many.num_words, 7, &low, &high));
+    wants("no bounds", 1, low == 0 && high == 0);
+    wants("few shared", 0, fastbloom_blocked_shared_rate_now(few, 7, &first, &last));
+    wants("no shared bounds", 1, first == 0 && last == 0);
+    wants("many shared", 0, fastbloom_blocked_shared_rate_now(many, 7, &first, &last));
+}
+
+/* Mean rates, by exact fractions of Python: of all draws of the items and of a look-up. */
+static void try_mean_rates(void) {
+    static const struct {
+        size_t lines;
+        uint32_t hashes;
+        size_t items;
+        double rate;
+    } rows[] = {{1, 1, 1, 1.0 / 512},
+                {1, 0, 1, 1.0 / 512},
+                {1, 8, 10, 1.9775794994280592e-07},
+                {2, 3, 5, 4.899430465457505e-06},
+                {31, 9, 1000, 0.0008727198074233734},
+                {200, 6, 10000, 0.008751541284288553},
+                {3125, 5, 200000, 0.023262940006562125},
+                {309166, 9, 10000000, 0.0008990513518564251},
+                {10, 1, 0, 0},
+                {1, 1, SIZE_MAX, 1},
+                {((size_t)1 << 55) - 1, UINT32_MAX, SIZE_MAX, 1}};
+    const double unit = 0x1p-63;
+    uint64_t low, high;
+    for (size_t i = 0; i < sizeof rows / sizeof *rows; i++) {
+        const double rate = rows[i].rate;
+        wants("a mean rate", FASTBLOOM_OK,
+              fastbloom_blocked_rate_bounds(8 * rows[i].lines + i % 8, rows[i].hashes,
+                                            rows[i].items, &low, &high));
+        wants("bounds", 1, (double)low * unit <= rate && rate <= (double)high * unit);
+        wants("near", 1, (double)(high - low) * unit <= 3e-12 * rate + 2 * unit);
+    }
+    wants("no line", FASTBLOOM_EMPTY_WORDS, fastbloom_blocked_rate_bounds(7, 1, 1, &low, &high));
+    wants("no bounds", 1, low == 0 && high == UINT64_C(1) << 63);
+    wants("many words", FASTBLOOM_TOO_MANY_WORDS,
+          fastbloom_blocked_rate_bounds((size_t)1 << 58, 1, 1, &low, &high));
+    wants("no bounds", 1, low == 0 && high == UINT64_C(1) << 63);
+}
+
+/* How many items filters take, by the same fractions. */
+static void try_capacities(void) {
+    static const struct {
+        size_t lines;
+        uint32_t hashes;
+        uint64_t num, den;
+        size_t items;
+    } rows[] = {{1, 1, 1, 2, 354},      {1, 0, 1, 2, 354},
+                {1, 8, 1, 1000, 34},    {2, 16, 1, 1000000000, 16},
+                {31, 9, 1, 1000, 1023}, {30917, 9, 1, 1000, 1018271},
+                {1, 8, 0, 1, 0},        {1, 8, 1, 0, 0},
+                {1, 8, 1, 1, SIZE_MAX}};
+    for (size_t i = 0; i < sizeof rows / sizeof *rows; i++)
+        wants("a capacity", rows[i].items,
+              fastbloom_blocked_capacity(8 * rows[i].lines + i % 8, rows[i].hashes, rows[i].num,
+                                         rows[i].den));
+    wants("none", 0, fastbloom_blocked_capacity(7, 8, 1, 2));
+    wants("too many", 0, fastbloom_blocked_capacity((size_t)1 << 58, 8, 1, 2));
+}
+
+/* Numbers of items, by logarithms of 60 digits of Python: the whole numbers on either side. Words
+ * behind the last line don't count. Shared words tell the same. */
+static void try_estimates(void) {
+    static const struct {
+        size_t lines;
+        uint32_t hashes;
+        size_t ones, low, high;
+    } rows[] = {{1, 8, 100, 13, 14},
+                {4, 3, 2047, 5211, 5212},
+                {31, 9, 7000, 1033, 1034},
+                {31, 9, 15871, 17186, 17187},
+                {2, 7, 0, 0, 0},
+                {2, 7, 1024, SIZE_MAX, SIZE_MAX},
+                {1, 0, 1, 0, 2}};
+    uint64_t words[8 * 31 + 7];
+    size_t low, high, first, last;
+    for (size_t i = 0; i < sizeof rows / sizeof *rows; i++) {
+        const size_t count = 8 * rows[i].lines + i % 8;
+        memset(words, 0xff, sizeof words);
+        for (size_t bit = rows[i].ones; bit < 512 * rows[i].lines; bit++)
+            words[bit / 64] &= ~(UINT64_C(1) << bit % 64);
+        wants("an estimate", 1,
+              fastbloom_blocked_estimate(words, count, rows[i].hashes, &low, &high));
+        wants("the lower bound", rows[i].low, low);
+        wants("the upper bound", rows[i].high, high);
+        wants("a shared estimate", 1,
+              fastbloom_blocked_shared_estimate((fastbloom_shared){words, count}, rows[i].hashes,
+                                                &first, &last));
+        wants("the same", 1, first == low && last == high);
+    }
+    wants("none", 0, fastbloom_blocked_estimate(words, 7, 1, &low, &high) || low || high);
+    wants("too many", 0,
+          fastbloom_blocked_estimate(words, (size_t)1 << 58, 1, &low, &high) || low || high);
+    wants("none shared", 0,
+          fastbloom_blocked_shared_estimate((fastbloom_shared){words, 7}, 1, &low, &high) || low ||
+              high);
+}
+
+/* Two filters of three lines: the first 200 bits are set in one, those from 100 to 299 in the other.
+ * By three hashes that makes 71.5 items each, and 111.4 together (by logarithms, as above). */
+static void try_two(void) {
+    uint64_t one[24] = {0}, two[24] = {0}, from, to;
+    size_t low, high;
+    for (size_t bit = 0; bit < 300; bit++) {
+        if (bit < 200) one[bit / 64] |= UINT64_C(1) << bit % 64;
+        if (bit >= 100) two[bit / 64] |= UINT64_C(1) << bit % 64;
+    }
+    wants("a union", 1, fastbloom_blocked_estimate_union(one, 24, two, 24, 3, &low, &high));
+    wants("its bounds", 1, low == 111 && high == 112);
+    wants("in common", 1, fastbloom_blocked_estimate_common(one, 24, two, 24, 3, &low, &high));
+    wants("its bounds", 1, low == 30 && high == 33);
+    wants("likeness", 1, fastbloom_blocked_jaccard(one, 24, two, 24, 3, &from, &to));
+    wants("its bounds", 1,
+          (double)from * 0x1p-63 <= (double)low / 112 &&
+              (double)high / 111 <= (double)to * 0x1p-63);
+    wants("near", 1, (double)(to - from) * 0x1p-63 < 0.04);
+    memset(one, 0, sizeof one);
+    wants("nothing known", 1, fastbloom_blocked_jaccard(one, 24, one, 24, 3, &from, &to));
+    wants("its bounds", 1, from == 0 && to == UINT64_C(1) << 63);
+    wants("none alike", 1, fastbloom_blocked_jaccard(one, 24, two, 24, 3, &from, &to));
+    wants("its bounds", 1, from == 0 && to < (UINT64_C(1) << 63) / 70);
+    memset(one, 0xff, sizeof one);
+    wants("full", 1, fastbloom_blocked_estimate_common(one, 24, two, 24, 3, &low, &high));
+    wants("its bounds", 1, low == 0 && high == SIZE_MAX);
+    wants("other lengths", 0, fastbloom_blocked_estimate_union(one, 24, two, 16, 3, &low, &high));
+    wants("no bounds", 1, low == 0 && high == 0);
+    wants("other lengths", 0, fastbloom_blocked_estimate_common(one, 24, two, 16, 3, &low, &high));
+    wants("other lengths", 0, fastbloom_blocked_jaccard(one, 24, two, 16, 3, &from, &to));
+    wants("no bounds", 1, from == 0 && to == 0);
+}
+
 int main(int argc, char **argv) {
     if (argc > 2 && strcmp(argv[1], "make") == 0) return try_files(true, argv + 2);
     if (argc > 2 && strcmp(argv[1], "read") == 0) return try_files(false, argv + 2);
@@ -248,7 +446,13 @@ int main(int argc, char **argv) {
                session % 4 == 3 ? "\n" : "");
     }
     try_bytes();
+    try_lines();
     try_plans();
     try_refusals();
+    try_rates_now();
+    try_mean_rates();
+    try_capacities();
+    try_estimates();
+    try_two();
     return wrong;
 }

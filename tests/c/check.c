@@ -94,6 +94,31 @@ static void plans(void) {
     CHECK(fastbloom_num_bits((size_t)1 << 58) == 0 && fastbloom_num_bits(SIZE_MAX) == 0);
 }
 
+/* How many items filters take, by whole numbers of Python that follow the definition of the bound. */
+static void capacities(void) {
+    static const struct {
+        size_t words;
+        uint32_t hashes;
+        uint64_t num, den;
+        size_t items;
+    } rows[] = {{1, 1, 1, 64, 1},
+                {1, 4, 1, 10, 12},
+                {3, 0, 1, 10, 20},
+                {16, 7, 1, 100, 106},
+                {156250, 7, 1, 128, 990209},
+                {224646, 10, 1, 1000, 999978},
+                {((size_t)1 << 58) - 1, 30, 1, 1000000000, 213836031897076158},
+                {1, 1, 1, (uint64_t)1 << 63, 0},
+                {1, 1, 1, 1, SIZE_MAX},
+                {0, 1, 1, 10, 0},
+                {(size_t)1 << 58, 1, 1, 10, 0},
+                {1, 1, 0, 10, 0},
+                {1, 1, 1, 0, 0}};
+    for (size_t i = 0; i < sizeof rows / sizeof *rows; i++)
+        CHECK(fastbloom_capacity(rows[i].words, rows[i].hashes, rows[i].num, rows[i].den) ==
+              rows[i].items);
+}
+
 /* SipHash-1-3 under the key bytes 0 to 15, of bytes that go up by seven from three. */
 static void hashes(void) {
     static const struct {
@@ -563,6 +588,7 @@ int main(int argc, char **argv) {
         return 2;
     }
     plans();
+    capacities();
     hashes();
     items_together();
     pieces();

@@ -48,6 +48,13 @@ int main(void) {
     wants("estimate_common", 0, fastbloom_estimate_common(NULL, 0, NULL, 0, 1, &low, &high));
     wants("jaccard", 0, fastbloom_jaccard(NULL, 0, NULL, 0, 1, &from, &to));
     wants("rate_now", 0, fastbloom_rate_now(NULL, 0, 1, &from, &to));
+    wants("blocked estimate", 0, fastbloom_blocked_estimate(NULL, 0, 1, &low, &high));
+    wants("blocked estimate_union", 0,
+          fastbloom_blocked_estimate_union(NULL, 0, NULL, 0, 1, &low, &high));
+    wants("blocked estimate_common", 0,
+          fastbloom_blocked_estimate_common(NULL, 0, NULL, 0, 1, &low, &high));
+    wants("blocked jaccard", 0, fastbloom_blocked_jaccard(NULL, 0, NULL, 0, 1, &from, &to));
+    wants("blocked rate_now", 0, fastbloom_blocked_rate_now(NULL, 0, 1, &from, &to));
     wants("blocked insert_hash", 0, fastbloom_blocked_insert_hash(NULL, 0, 1, 5));
     wants("blocked insert_hashes", 0, fastbloom_blocked_insert_hashes(NULL, 0, 1, NULL, 0));
     wants("blocked contains_hash", 0, fastbloom_blocked_contains_hash(NULL, 0, 1, 5));

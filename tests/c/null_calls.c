@@ -163,6 +163,34 @@ bool fastbloom_rate_now(const uint64_t *words, size_t num_words, uint32_t num_ha
     return false;
 }
 
+bool fastbloom_blocked_estimate(const uint64_t *words, size_t num_words, uint32_t num_hashes,
+                                size_t *low, size_t *high) {
+    return fastbloom_estimate(words, num_words, num_hashes, low, high);
+}
+
+bool fastbloom_blocked_estimate_union(const uint64_t *words, size_t num_words,
+                                      const uint64_t *other, size_t num_other, uint32_t num_hashes,
+                                      size_t *low, size_t *high) {
+    return fastbloom_estimate_union(words, num_words, other, num_other, num_hashes, low, high);
+}
+
+bool fastbloom_blocked_estimate_common(const uint64_t *words, size_t num_words,
+                                       const uint64_t *other, size_t num_other, uint32_t num_hashes,
+                                       size_t *low, size_t *high) {
+    return fastbloom_estimate_common(words, num_words, other, num_other, num_hashes, low, high);
+}
+
+bool fastbloom_blocked_jaccard(const uint64_t *words, size_t num_words, const uint64_t *other,
+                               size_t num_other, uint32_t num_hashes, uint64_t *low,
+                               uint64_t *high) {
+    return fastbloom_jaccard(words, num_words, other, num_other, num_hashes, low, high);
+}
+
+bool fastbloom_blocked_rate_now(const uint64_t *words, size_t num_words, uint32_t num_hashes,
+                                uint64_t *low, uint64_t *high) {
+    return fastbloom_rate_now(words, num_words, num_hashes, low, high);
+}
+
 bool fastbloom_estimate_union(const uint64_t *words, size_t num_words, const uint64_t *other,
                               size_t num_other, uint32_t num_hashes, size_t *low, size_t *high) {
     (void)num_words, (void)num_other, (void)num_hashes;

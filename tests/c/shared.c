@@ -179,12 +179,101 @@ static void run(const uint64_t *plain, uint64_t *loaded) {
     wants("bits after clear", 0, ones_in(shared.words, NUM_WORDS));
 }
 
-/* What a call that refuses leaves, and what one thread alone gets, as from the plain calls. */
+/* Words that are passed to calls that refuse, and words that such a call may not write. */
+enum { ROOM = 16 };
+static uint64_t own[ROOM], target[ROOM];
+
+/* A refused call returned this. All words are as they were. */
+static void refused(const char *call, uint64_t reply) {
+    wants(call, 0, reply);
+    for (uint64_t i = 0; i < ROOM; i++) {
+        wants(call, hash_of(i), own[i]);
+        wants(call, hash_of(ROOM + i), target[i]);
+    }
+}
+#define REFUSED(call) refused(#call, (uint64_t)(call))
+
+/* Each call refuses these words, whatever else it is given. */
+static void try_refused_words(fastbloom_shared bad) {
+    fastbloom_shared good = {target, ROOM};
+    uint64_t low = 1, high = 1;
+    size_t least = 1, most = 1;
+    REFUSED(fastbloom_shared_rate_now(bad, 3, &low, &high) || low || high);
+    REFUSED(fastbloom_shared_estimate(bad, 3, &least, &most) || least || most);
+    REFUSED(fastbloom_shared_insert_hash(bad, 3, 5));
+    REFUSED(fastbloom_shared_contains_hash(bad, 3, 5));
+    REFUSED(fastbloom_shared_insert(bad, 3, key, key, 16));
+    REFUSED(fastbloom_shared_contains(bad, 3, key, key, 16));
+    REFUSED(fastbloom_shared_insert_hashes(bad, 3, own, ROOM));
+    REFUSED(fastbloom_shared_contains_hashes(bad, 3, own, ROOM, target, ROOM));
+    REFUSED(fastbloom_shared_insert_hashes_tell_new(bad, 3, own, ROOM, target, ROOM));
+    REFUSED(fastbloom_shared_clear(bad));
+    REFUSED(fastbloom_shared_union(bad, bad));
+    REFUSED(fastbloom_shared_union(bad, good));
+    REFUSED(fastbloom_shared_union(good, bad));
+    REFUSED(fastbloom_shared_intersect(bad, bad));
+    REFUSED(fastbloom_shared_intersect(bad, good));
+    REFUSED(fastbloom_shared_intersect(good, bad));
+    REFUSED(fastbloom_shared_take(bad, target, ROOM));
+    REFUSED(fastbloom_shared_take(bad, target, 0));
+    REFUSED(fastbloom_shared_load(bad, target, ROOM));
+    REFUSED(fastbloom_shared_load(bad, target, 0));
+    REFUSED(fastbloom_shared_count_ones(bad));
+}
+
+/* Each call on lines refuses these words. */
+static void try_refused_lines(fastbloom_shared bad) {
+    uint64_t low = 1, high = 1;
+    REFUSED(fastbloom_blocked_shared_rate_now(bad, 3, &low, &high) || low || high);
+    REFUSED(fastbloom_blocked_shared_insert_hash(bad, 3, 5));
+    REFUSED(fastbloom_blocked_shared_contains_hash(bad, 3, 5));
+    REFUSED(fastbloom_blocked_shared_insert(bad, 3, key, key, 16));
+    REFUSED(fastbloom_blocked_shared_contains(bad, 3, key, key, 16));
+    REFUSED(fastbloom_blocked_shared_insert_hashes(bad, 3, own, ROOM));
+    REFUSED(fastbloom_blocked_shared_contains_hashes(bad, 3, own, ROOM, target, ROOM));
+    REFUSED(fastbloom_blocked_shared_insert_hashes_tell_new(bad, 3, own, ROOM, target, ROOM));
+}
+
+/* A call that refuses does nothing: each refusal of each call. */
+static void try_refused(void) {
+    const size_t counts[] = {0, (size_t)1 << 58, SIZE_MAX};
+    const uint64_t hashes[65] = {1, 2, 3, 4, 5};
+    fastbloom_shared all = {own, ROOM}, fewer = {target, ROOM - 1}, none = {NULL, 0};
+    for (uint64_t i = 0; i < ROOM; i++) own[i] = hash_of(i), target[i] = hash_of(ROOM + i);
+    try_refused_words(none);
+    try_refused_lines(none);
+    for (size_t i = 0; i < sizeof counts / sizeof *counts; i++) {
+        fastbloom_shared bad = {own, counts[i]};
+        try_refused_words(bad);
+        try_refused_lines(bad);
+    }
+    for (size_t i = 1; i < 8; i++) {
+        fastbloom_shared part = {own, i};
+        try_refused_lines(part);
+    }
+    REFUSED(fastbloom_shared_contains_hashes(all, 3, hashes, 65, target, 1));
+    REFUSED(fastbloom_shared_contains_hashes(all, 3, hashes, 1, target, 0));
+    REFUSED(fastbloom_shared_insert_hashes_tell_new(all, 3, hashes, 65, target, 1));
+    REFUSED(fastbloom_shared_insert_hashes_tell_new(all, 3, hashes, 1, target, 0));
+    REFUSED(fastbloom_blocked_shared_contains_hashes(all, 3, hashes, 65, target, 1));
+    REFUSED(fastbloom_blocked_shared_contains_hashes(all, 3, hashes, 1, target, 0));
+    REFUSED(fastbloom_blocked_shared_insert_hashes_tell_new(all, 3, hashes, 65, target, 1));
+    REFUSED(fastbloom_blocked_shared_insert_hashes_tell_new(all, 3, hashes, 1, target, 0));
+    REFUSED(fastbloom_shared_union(all, fewer));
+    REFUSED(fastbloom_shared_union(fewer, all));
+    REFUSED(fastbloom_shared_intersect(all, fewer));
+    REFUSED(fastbloom_shared_intersect(fewer, all));
+    REFUSED(fastbloom_shared_take(all, target, ROOM - 1));
+    REFUSED(fastbloom_shared_take(all, target, 0));
+    REFUSED(fastbloom_shared_load(all, target, ROOM - 1));
+    REFUSED(fastbloom_shared_load(all, target, 0));
+}
+
+/* What one thread alone gets, as from the plain calls. */
 static void try_alone(void) {
     enum { FEW = 5 };
     uint64_t words[FEW] = {0}, plain[FEW] = {0}, other[FEW] = {0}, into[FEW], copy[FEW];
-    fastbloom_shared few = {words, FEW}, none = {NULL, 0}, others = {other, FEW};
-    fastbloom_shared fewer = {other, FEW - 1}, too_many = {words, (size_t)1 << 58};
+    fastbloom_shared few = {words, FEW}, others = {other, FEW};
     for (uint64_t i = 0; i < 60; i++) {
         uint64_t hash = hash_of(i);
         uint32_t hashes = (uint32_t)(i % 3);
@@ -199,20 +288,16 @@ static void try_alone(void) {
         if (i % 7 == 0) fastbloom_insert_hash(other, FEW, 1, hash + 9);
     }
     wants("words alone", 1, fastbloom_equal(words, FEW, plain, FEW));
-    memcpy(copy, words, sizeof copy);
-    memset(into, 0x5a, sizeof into);
-    wants("a take into fewer", 0, fastbloom_shared_take(few, into, FEW - 1));
-    wants("a take out of none", 0, fastbloom_shared_take(none, into, 0));
-    wants("a load into fewer", 0, fastbloom_shared_load(few, into, FEW - 1));
-    wants("a union of other lengths", 0, fastbloom_shared_union(few, fewer));
-    wants("a union of nothing", 0, fastbloom_shared_union(none, none));
-    wants("an intersection of other lengths", 0, fastbloom_shared_intersect(few, fewer));
-    wants("a clear of nothing", 0, fastbloom_shared_clear(none));
-    wants("too many words", 0, fastbloom_shared_insert_hash(too_many, 1, 1));
-    wants("a clear of too many words", 0, fastbloom_shared_clear(too_many));
-    wants("too few bits", 0, fastbloom_shared_insert_hashes_tell_new(few, 1, plain, FEW, into, 0));
-    wants("refused calls change nothing", 0, (uint64_t)memcmp(copy, words, sizeof copy));
-    wants("refused calls write nothing", 1, into[0] == into[4] && into[0] % 256 == 0x5a);
+    uint64_t low, high, from, to;
+    size_t least, most, first, last;
+    for (uint32_t hashes = 0; hashes < 9; hashes++) {
+        wants("a rate", fastbloom_rate_now(plain, FEW, hashes, &from, &to),
+              fastbloom_shared_rate_now(few, hashes, &low, &high));
+        wants("its bounds", 1, from == low && to == high);
+        wants("an estimate", fastbloom_estimate(plain, FEW, hashes, &first, &last),
+              fastbloom_shared_estimate(few, hashes, &least, &most));
+        wants("its bounds", 1, first == least && last == most);
+    }
     memcpy(copy, other, sizeof copy);
     wants("a union alone", fastbloom_union(plain, FEW, other, FEW),
           fastbloom_shared_union(few, others));
@@ -277,6 +362,7 @@ int main(int argc, char **argv) {
         fastbloom_blocked_insert_hash(plain[2], NUM_WORDS, 1, hash_of(i));
         fastbloom_blocked_insert_hash(plain[3], NUM_WORDS, 3, hash_of(i));
     }
+    try_refused();
     try_alone();
     try_twice();
     try_large();

@@ -364,8 +364,43 @@ static void try_writers(const std::string &path, int count, char **others) {
     }
 }
 
+// Filters of two lines, of which one has the item of hash 5 and the other two more: rates and numbers
+// of items, how many they take, and which is a subset. Numbers are those of Python's fractions.
+template <typename Filter> void try_rates() {
+    auto few = *Filter::with_lines(2, 1), more = *Filter::with_lines(2, 1);
+    CHECK(few.false_positive_rate()->high == 0 && few.estimated_items()->high == 0u);
+    CHECK(few <= more && more <= few && few.is_subset(few));
+    few.insert_hash(5);
+    for (const std::uint64_t hash : {std::uint64_t{5}, std::uint64_t{1} << 63, ~std::uint64_t{0}})
+        more.insert_hash(hash);
+    CHECK(more.count_ones() == 3 && few.count_ones() == 1);
+    CHECK(few <= more && more >= few && few.is_subset(more));
+    CHECK(!(more <= few) && !(few >= more) && !more.is_subset(few));
+    CHECK(few.false_positive_rate()->low == std::uint64_t{1} << 53);
+    CHECK(few.false_positive_rate()->high == few.false_positive_rate()->low);
+    CHECK(more.false_positive_rate()->low == std::uint64_t{3} << 53);
+    CHECK(few.estimated_items()->low <= 1 && few.estimated_items()->high == 2u);
+    CHECK(more.estimated_items()->low == 3 && more.estimated_items()->high == 4u);
+    // Of 709 items half of all bits are expected to be set, 1 - (1023/1024)^709 = 0.49979.
+    CHECK(more.capacity_for(1, 2) == 709);
+    CHECK(more.false_positive_bounds(709)->high <= std::uint64_t{1} << 62);
+    CHECK(more.false_positive_bounds(710)->low > std::uint64_t{1} << 62);
+    const Filter other = *Filter::with_lines(3, 1), none;
+    CHECK(!other.is_subset(few) && !few.is_subset(other) && !few.is_subset(none));
+    CHECK(!none.false_positive_rate() && !none.estimated_items() && none.capacity_for(1, 2) == 0);
+    CHECK(none.false_positive_bounds(1).status() == status::empty_words);
+    // Words past the first 64.
+    auto large = *Filter::with_lines(20, 3), larger = *Filter::with_lines(20, 3);
+    for (std::uint64_t i = 0; i < 100; i++) larger.insert_hash(i * 0x9e3779b97f4a7c15);
+    CHECK(large <= larger);
+    large.insert_hash(~std::uint64_t{0});
+    CHECK(!(large <= larger) && large.is_subset(large));
+}
+
 int main(int argc, char **argv) {
     if (argc < 3) return 2;
+    try_rates<blocked_filter>();
+    try_rates<shared_blocked_filter>();
     for (std::uint64_t session = 0; session < 200; session++) {
         const std::uint64_t number = number_of<blocked_filter>(session);
         CHECK(number_of<shared_blocked_filter>(session) == number);

@@ -165,6 +165,12 @@ static void estimates() {
     const auto longer = filter::with_shape(2, 1);
     CHECK(!one->estimated_union(*longer) && !one->estimated_common(*longer));
     CHECK(!one->jaccard(*longer) && !filter{}.jaccard(filter{}));
+    // (the other one has all bits set; the numbers are those of Python's whole numbers)
+    CHECK(*one <= *other && *other >= *one && !(*other <= *one) && one->is_subset(*one));
+    CHECK(!one->is_subset(*longer) && !longer->is_subset(*one));
+    CHECK(filter::with_shape(16, 7)->capacity_for(1, 100) == 106);
+    CHECK(filter::with_shape(1, 4)->capacity_for(1, 10) == 12);
+    CHECK(filter{}.capacity_for(1, 10) == 0 && one->capacity_for(0, 10) == 0);
     CHECK(!filter{}.estimated_items() && !filter{}.estimated_union(filter{}));
     CHECK(!filter{}.estimated_common(filter{}));
 }

@@ -1,12 +1,14 @@
 """The filter that each language builds, and files that every reader refuses."""
 
 import os
+import re
 
 import pytest
 from conftest import TOP, run
 from fastbloom import BlockedFilter, Filter, Refusal, RotatingFilter
 
 NAMES = [f"item{i}" for i in range(101_000)]
+SIPHASH = TOP / "tests/siphash.text"
 
 
 def digest(words):
@@ -34,6 +36,15 @@ def test_values_from_outside(seen):
         f"digest {digest(seen.words()):016x}\n"
         f"false {sum(name in seen for name in NAMES[1000:])} of 100000\n"
     )
+
+
+def test_hashes_are_those_of_siphash():
+    """Under keys and of texts of all lengths, by another program."""
+    rows = re.findall(r"^(\w{32}) (\w{16})\n((?: \w+\n)*)", SIPHASH.read_text(), re.M)
+    for key, wanted, text in rows:
+        message = bytes.fromhex("".join(text.split()))
+        assert f"{Filter(1, '1/2', key=bytes.fromhex(key)).hash(message):016x}" == wanted, key
+    assert len(rows) == 40
 
 
 def test_its_file_is_loaded_and_mapped(seen, files):

@@ -29,7 +29,7 @@ def test_the_header_declares_the_calls():
 def test_the_numbers_of_refusals_are_those_of_the_sources():
     rows = [
         row
-        for file in ("bloom_parts/src/error.rt", "bloom_plain/src/file/error.rt")
+        for file in ("bloom_parts/src/error.rt", "bloom_files/src/error.rt")
         for row in found(
             r"^ *(?:Filter|File)Error::(\w+)(?:\(_\))? => (\d+),$", TOP / "crates" / file
         )
@@ -156,7 +156,7 @@ def test_two_builds_into_one_folder(tmp_path):
         for _ in range(2)
     ]
     assert [build.wait(1200) for build in builds] == [0, 0]
-    assert len(set(made.read_text().split())) == 4
+    assert len(set(made.read_text().split())) == 2 * len([*(TOP / "c").glob("*.c"), SHARED])
     assert not list(folder.glob("**/.*"))
     assert run(BUILD, folder, env={**os.environ, "CC": str(tmp_path / "none")})[0] == 0
     assert [path.name for path in folder.glob("libfastbloom_c*")] == ["libfastbloom_c.a"]

@@ -8,13 +8,11 @@
 mod blocked;
 mod fills;
 mod filters;
-mod kernels;
 mod keys;
 mod plain;
 mod plan;
 mod seated;
 mod shared;
-mod steps;
 mod table;
 mod threads;
 
@@ -28,18 +26,14 @@ use table::measure_rows;
 enum Part {
     Plain,
     Blocked,
-    Kernels,
-    Steps,
     Shared,
     Threads,
     Fills,
 }
 
-const PARTS: [Part; 7] = [
+const PARTS: [Part; 5] = [
     Part::Plain,
     Part::Blocked,
-    Part::Kernels,
-    Part::Steps,
     Part::Shared,
     Part::Threads,
     Part::Fills,
@@ -56,8 +50,6 @@ fn measure_part<R: AllocGlobal + Threads>(
     match part {
         Part::Plain => measure_rows(rt, plan, plain::calls_for(alloc, keys), &plain::TABLE),
         Part::Blocked => measure_rows(rt, plan, blocked::calls_for(alloc, keys), &blocked::TABLE),
-        Part::Kernels => measure_rows(rt, plan, kernels::calls_for(alloc, keys), &kernels::TABLE),
-        Part::Steps => measure_rows(rt, plan, steps::calls_for(alloc, keys), &steps::TABLE),
         Part::Shared => measure_rows(rt, plan, shared::calls_for(alloc, keys), &shared::TABLE),
         Part::Threads => {
             measure_rows(

@@ -4,7 +4,7 @@ mod rows;
 use crate::filters::filter_for;
 use crate::keys::{contains_keys, first_foreign_key, hash_of, numbers_to};
 use crate::table::{Made, Measured};
-use fastbloom::{BloomFilter, FilterData, FilterError};
+use fastbloom::{BloomFilter, FilterError};
 pub use rows::{Call, TABLE};
 use std::alloc::{AllocError, Global};
 
@@ -120,8 +120,8 @@ fn answer_of(filter: &mut BloomFilter, other: &BloomFilter, call: Call) -> bool 
     filter.contains_hash(0)
 }
 
-/// What the calls are made on: a filter and another, which has the hash 0, items of both kinds, and
-/// the filter as data and as text.
+/// What the calls are made on: a filter and another, which has the hash 0, and items of both
+/// kinds.
 #[derive(Drop)]
 pub struct Calls {
     alloc: Global,
@@ -130,8 +130,6 @@ pub struct Calls {
     other: BloomFilter,
     texts: Vec<String>,
     numbers: Vec<u64>,
-    data: Option<FilterData>,
-    text: String,
 }
 
 impl Calls {
@@ -181,9 +179,6 @@ impl Measured for Calls {
                 Call::Contains => insert_numbers(&mut self.filter, keys),
                 Call::ContainsTexts => insert_texts(&mut self.filter, self.texts.as_slice(), 32),
                 Call::Hit | Call::Miss => insert_keys(&mut self.filter, keys),
-                Call::ToData | Call::FromData | Call::Write | Call::Read => {
-                    insert_keys(&mut self.filter, keys)
-                }
                 _ => 0,
             };
         }
@@ -192,8 +187,6 @@ impl Measured for Calls {
                 {
                     self.filter.clear();
                 }
-            Call::FromData | Call::Write => self.data = Some(self.filter.to_data(alloc)?),
-            Call::Read => self.text = serde_json::to_string(alloc, &self.filter.to_data(alloc)?)?,
             _ => {}
         }
         Ok(())
@@ -202,16 +195,6 @@ impl Measured for Calls {
     fn make(&mut self, call: Call, _number: u32, round: u32) -> anyhow::Result<Made> {
         Ok(match call {
             Call::Clone => Made::Copy(self.other.try_clone(self.alloc)?),
-            Call::ToData => Made::Data(self.filter.to_data(self.alloc)?),
-            Call::FromData => match self.data.take() {
-                Some(data) => Made::Filled(BloomFilter::from_data(data)?, 1),
-                None => Made::Answers(0),
-            },
-            Call::Write => match &self.data {
-                Some(data) => Made::Text(serde_json::to_string(self.alloc, data)?),
-                None => Made::Answers(0),
-            },
-            Call::Read => Made::Data(serde_json::from_str(self.alloc, self.text.as_str())?),
             _ => Made::Answers(self.count_answers(call, round)),
         })
     }
@@ -230,7 +213,5 @@ pub fn calls_for(alloc: Global, keys: u32) -> Result<Calls, FilterError> {
         other,
         texts: Vec::new(alloc),
         numbers,
-        data: None,
-        text: String::new(alloc),
     })
 }

@@ -18,8 +18,6 @@ pub enum Unit {
     Key,
     /// A word of a filter for the keys.
     Word,
-    /// A word that a kernel goes over.
-    KernelWord,
 }
 
 /// Which rows are measured, by a word in their names, for how many keys, and in how many rounds.
@@ -46,7 +44,6 @@ impl Plan {
             _ if self.keys == 0 => 0,
             Unit::Key => self.keys as u64,
             Unit::Word => count_words(self.keys) as u64,
-            Unit::KernelWord => 1 << 20,
         }
     }
 }

@@ -2,7 +2,7 @@
 
 use crate::keys::contains_keys;
 use crate::plan::{Plan, Unit};
-use fastbloom::{AtomicBloomFilter, BloomFilter, FilterData, FilterError, Trace};
+use fastbloom::{AtomicBloomFilter, BloomFilter, FilterError};
 use std::io;
 use std::time::{Duration, Instant};
 
@@ -16,20 +16,6 @@ pub enum Made {
     SharedCopy(AtomicBloomFilter),
     /// A filter, in which the first keys are looked up.
     Filled(BloomFilter, u64),
-    Data(FilterData),
-    Text(String),
-    Words(Vec<u64>),
-    Replies(Vec<bool>),
-    Trace(Trace),
-}
-
-// How many are true.
-fn count_true(replies: &[bool]) -> u64 {
-    let mut answers: u64 = 0;
-    'replies: for reply in replies {
-        answers = answers.wrapping_add((*reply) as u64);
-    }
-    answers
 }
 
 impl Made {
@@ -40,11 +26,6 @@ impl Made {
             Made::Copy(filter) => filter.contains_hash(0) as u64,
             Made::SharedCopy(filter) => filter.contains_hash(0) as u64,
             Made::Filled(filter, keys) => contains_keys(&filter, 0, keys),
-            Made::Data(data) => data.bits.bits.len() as u64,
-            Made::Text(text) => text.len() as u64,
-            Made::Words(words) => words.len() as u64,
-            Made::Replies(replies) => count_true(&replies),
-            Made::Trace(trace) => trace.records().len() as u64,
         }
     }
 }

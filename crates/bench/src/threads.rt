@@ -1,9 +1,7 @@
-//! The calls of filters that threads share, made by several threads at once, and of seated ones by
-//! the thread that measures.
+//! The calls of filters that threads share, made by several threads at once.
 ghost use Rattle.std.specs.Prelude.{⊤};
 
 use crate::filters::shared_filter_for;
-use crate::keys::first_foreign_key;
 use crate::plan::Unit;
 use crate::seated::{Seat, seats_for};
 use crate::shared::{contains_keys, insert_keys};
@@ -21,8 +19,6 @@ pub enum Job {
     Insert,
     /// Looks up keys that are there.
     Hit,
-    /// Looks up keys that aren't.
-    Miss,
 }
 
 // What a thread works with: a filter that it shares with the others.
@@ -44,7 +40,7 @@ impl Worker for Arc<AtomicBloomFilter, Global> {
     fn work(&mut self, job: Job, first: u64, keys: u64) -> u64 {
         match job {
             Job::Insert => insert_keys(self, first, keys),
-            Job::Hit | Job::Miss => contains_keys(self, first, keys),
+            Job::Hit => contains_keys(self, first, keys),
         }
     }
 }
@@ -57,7 +53,7 @@ impl Worker for Seat {
     fn work(&mut self, job: Job, first: u64, keys: u64) -> u64 {
         match job {
             Job::Insert => self.insert_keys(first, keys),
-            Job::Hit | Job::Miss => self.contains_keys(first, keys),
+            Job::Hit => self.contains_keys(first, keys),
         }
     }
 }
@@ -99,7 +95,7 @@ fn workers_for<W: Worker + Drop>(
     threads: u32,
 ) -> Result<Vec<W>, FilterError> {
     let mut workers = W::all(alloc, keys, threads)?;
-    if let (Job::Hit | Job::Miss, Some(worker)) = (job, workers.first_mut()) {
+    if let (Job::Hit, Some(worker)) = (job, workers.first_mut()) {
         worker.work(Job::Insert, 0, keys as u64);
     }
     Ok(workers)
@@ -124,41 +120,18 @@ fn round_of<R: Threads, W: Worker + Send + Drop + 'static>(
     Ok(others.wrapping_add(answers))
 }
 
-/// Who takes part: threads that share a filter, threads with a seat each, or the thread that
-/// measures, with a seat.
+/// Who takes part: threads that share a filter, or threads with a seat each.
 #[derive(Clone, Copy)]
 pub enum Party {
     Sharers,
     Seats,
-    Seat,
 }
 
 // Numbers of threads.
 const THREADS: &'static [u32] = &[1, 2, 4];
 
-/// The rows of seated filters by one thread, and of shared and seated ones by one, two and four.
-pub const TABLE: [Rows<(Party, Job)>; 7] = [
-    (
-        (Party::Seat, Job::Insert),
-        "seated insert_hash_as",
-        &[7],
-        Unit::Key,
-        "true",
-    ),
-    (
-        (Party::Seat, Job::Hit),
-        "seated hit",
-        &[7],
-        Unit::Key,
-        "true",
-    ),
-    (
-        (Party::Seat, Job::Miss),
-        "seated miss",
-        &[7],
-        Unit::Key,
-        "true",
-    ),
+/// The rows of shared and of seated filters by one, two and four threads.
+pub const TABLE: [Rows<(Party, Job)>; 4] = [
     (
         (Party::Sharers, Job::Insert),
         "insert by threads:",
@@ -205,28 +178,18 @@ impl<'a, R: AllocGlobal + Threads> Measured for Calls<'a, R> {
     fn prepare(&mut self, call: (Party, Job), threads: u32, round: u32) -> anyhow::Result<()> {
         let (alloc, keys, job) = (self.rt.alloc(), self.keys, call.1);
         match call {
-            (_, Job::Hit | Job::Miss) if round > 0 => {}
+            (_, Job::Hit) if round > 0 => {}
             (Party::Sharers, _) => self.sharers = workers_for(alloc, job, keys, threads)?,
             (Party::Seats, _) => self.seats = workers_for(alloc, job, keys, threads)?,
-            (Party::Seat, _) => self.seats = workers_for(alloc, job, keys, 1)?,
         }
         Ok(())
     }
 
-    fn make(&mut self, call: (Party, Job), threads: u32, round: u32) -> anyhow::Result<Made> {
-        let (keys, job) = (self.keys as u64, call.1);
-        let part = keys / threads.max(1) as u64;
-        let answers = match (call.0, self.seats.first_mut()) {
-            (Party::Sharers, _) => round_of(self.rt, &mut self.sharers, job, part)?,
-            (Party::Seats, _) => round_of(self.rt, &mut self.seats, job, part)?,
-            (Party::Seat, Some(seat)) => {
-                let first = match job {
-                    Job::Miss => first_foreign_key(keys, round),
-                    _ => 0,
-                };
-                seat.work(job, first, keys)
-            }
-            (Party::Seat, None) => 0,
+    fn make(&mut self, call: (Party, Job), threads: u32, _round: u32) -> anyhow::Result<Made> {
+        let part = self.keys as u64 / threads.max(1) as u64;
+        let answers = match call.0 {
+            Party::Sharers => round_of(self.rt, &mut self.sharers, call.1, part)?,
+            Party::Seats => round_of(self.rt, &mut self.seats, call.1, part)?,
         };
         Ok(Made::Answers(answers))
     }

@@ -1,4 +1,7 @@
 //! A Bloom filter that replies to commands, one a line.
+//!
+//! It takes two numbers, makes the filter, and serves standard input by `bloom_engine`. `texts` has
+//! its help and its version.
 #![tactic(auto)]
 
 ghost use Rattle.std.specs.Prelude.{◌≡◌, ◌≢◌, ◌^◌, ◌≤◌, ◌⊎◌, IfOk, IfErr, IsOkUnless, max, replicate};

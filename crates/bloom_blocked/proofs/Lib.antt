@@ -7,22 +7,23 @@ mod BlockedSizingFacts
 mod BuilderLemmas
 mod CarriedLemmas
 mod FilterLemmas
-mod LawLemmas
+pub mod LawLemmas
 mod LineCourseFacts
 mod LineCourseLaws
 mod LineFacts
-mod LineFileFacts
-mod LineFileLemmas
 mod LineGrowLemmas
 mod LineInsertLemmas
 mod LineKindLemmas
 mod LineLemmas
 mod LineLookUpLemmas
 mod LineMomentFacts
+mod LineRateFacts
+mod LineRateLemmas
 mod LineScriptFacts
 mod LineStepFacts
 mod LineTakeFacts
 mod LineTakeLemmas
+mod LiveScriptFacts
 mod LiveScriptLemmas
 mod ManyLemmas
 mod OwnStepLemmas

@@ -128,7 +128,7 @@ module _ (words ys : List ℕ) (at : ℕ) (eight : length ys ≡ 8) (within : at
       ]
     ]
 
--- turning on the positions of the inner hash in the words of a line turns on those of the hash
+-- setting the positions of the inner hash in the words of a line sets those of the hash
 pub line-turned : (words ys : List ℕ) (at lines k hash : ℕ) → at ≡ 8 * line_of lines hash
     → at + 8 ≤ length words
     → length ys ≡ length (take (at + 8 - at) (drop at words))

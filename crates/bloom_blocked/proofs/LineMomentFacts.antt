@@ -1,7 +1,7 @@
 -- What the theorems on courses of a blocked filter say: cases that hold, and cases that differ from
 -- one of these in one thing and don't hold. Here are one line and one hash. Hash 0 has position 0
 -- alone.
-use Rattle.std.proofs.Common.{[], ◌%◌, ◌+◌, ◌/◌, ◌∷◌, ◌≡◌, List, Some, arith, eqb, false, inr, lit<, lit≤, refl, slice_get, suc, true, zero, ℕ}
+use Rattle.std.proofs.Common.{[], ◌%◌, ◌+◌, ◌/◌, ◌∷◌, ◌≡◌, ◌≤◌, Bool, List, Some, ap, arith, eqb, false, inr, lit<, lit≤, not, refl, slice_get, subst, suc, true, zero, ℕ}
 use Rattle.std.proofs.lemmas.Bool.{and_parts, both_ways, eqb-true}
 use Rattle.std.proofs.lemmas.Option.{none-some, same_Some}
 use Rattle.bloom_parts.specs.Chain.{chain}
@@ -15,11 +15,11 @@ use Rattle.bloom_steps.specs.declared.steps.vocabulary.Record.{Record}
 use Rattle.bloom_steps.specs.declared.steps.vocabulary.Record.TheVariants.{Began, Did}
 use Rattle.bloom_steps.specs.declared.steps.vocabulary.Step.{Step}
 use Rattle.bloom_steps.specs.declared.steps.vocabulary.Step.TheVariants.{Load, Or}
-use Rattle.bloom_steps.specs.Courses.{Course}
+use Rattle.bloom_steps.specs.Courses.{Course, party_of}
 use Rattle.bloom_steps.specs.Moments.{IsFinished}
 use Rattle.bloom_steps.specs.Plans.{goes_by_hash, plan_of}
 use Rattle.bloom_blocked.specs.LineCourses.{BitsTell, FindsInsertedInLine, IsRightInLine, NoneOfLineTurnedOff}
-use Rattle.bloom_blocked.specs.LineEnds.{EachStepOf, EndsWithInserts}
+use Rattle.bloom_blocked.specs.LineEnds.{EachStepOf, EndsWithInserts, IsStepOf}
 use Rattle.bloom_blocked.specs.Lines.{inner_of, line_positions}
 
 -- the words of a line of which the first alone may have bits
@@ -118,22 +118,62 @@ found-missed all =
 abbrev once : ℕ → Course
 once word = from_clear (Began 0 (Insert 0) ∷ Did 0 (Or 0 1) 0 (Answer false) ∷ []) word
 
-once-each : (word : ℕ) → EachStepOf (λ call. goes_by_hash (plan_of call)) (once word)
+-- whether a call goes by a hash
+abbrev by_hash : Call → Bool
+by_hash call = goes_by_hash (plan_of call)
+
+-- its step is one of a call by a hash
+once-step : (word : ℕ) → IsStepOf by_hash (once word) 1 0
+once-step word = record {
+  call = Insert 0;
+  passes = refl;
+  began = 0;
+  last = 1;
+  ended = Answer false;
+  finished =
+      at-once (once word) 0 0 1 (Insert 0) (Or 0 1) 0 (Answer false) (λ e. cc) refl refl refl;
+  later = lit< tt;
+  upto = lit≤ tt;
+}
+
+-- the beginning of a call is no step of it, and no step comes past its last
+step-beginning : IsStepOf by_hash (once 1) 0 0 → ⊥
+step-beginning is = omega (arith, is.later)
+
+step-past : IsStepOf by_hash (once 1) 2 0 → ⊥
+step-past is = past is.last is.upto is.ended is.finished.ends.step is.finished.ends.found
+    is.finished.ends.here
+  where
+    past : (l : ℕ) → 2 ≤ l → (end : End) (x : Step) (found : ℕ)
+        → slice_get (once 1).records l ≡ Some (Did 0 x found end) → ⊥
+    past zero late end x found e = omega (arith, late)
+    past (suc zero) late end x found e = omega (arith, late)
+    past (suc (suc l)) late end x found e = none-some _ e
+
+-- it is no step of another party, or of a call of another kind
+step-party : IsStepOf by_hash (once 1) 1 1 → ⊥
+step-party is = other is.began is.call is.finished.begins
+  where
+    other : (b : ℕ) (call : Call) → slice_get (once 1).records b ≡ Some (Began 1 call) → ⊥
+    other zero call e = omega (arith, ap party_of (same_Some _ _ e))
+    other (suc zero) call e = omega (arith, ap party_of (same_Some _ _ e))
+    other (suc (suc b)) call e = none-some _ e
+
+step-kind : IsStepOf (λ call. not (by_hash call)) (once 1) 1 0 → ⊥
+step-kind is = inserts is.began is.call is.passes is.finished.begins
+  where
+    inserts : (b : ℕ) (call : Call) → not (by_hash call) ≡ true
+        → slice_get (once 1).records b ≡ Some (Began 0 call) → ⊥
+    inserts zero call passes e =
+        let same : call ≡ Insert 0 = (let k = same_Some _ _ e in cc) in
+        both_ways false refl (subst (λ c. not (by_hash c) ≡ true) same passes)
+    inserts (suc zero) call passes e = let k = same_Some _ _ e in cc
+    inserts (suc (suc b)) call passes e = none-some _ e
+
+once-each : (word : ℕ) → EachStepOf by_hash (once word)
 once-each word zero party ended at = absurd (let e = same_Some _ _ at.here in cc)
 once-each word (suc zero) party ended at =
-    let e = same_Some _ _ at.here in
-    let own : party ≡ 0 = cc in
-    rw (own) (record {
-      call = Insert 0;
-      passes = refl;
-      began = 0;
-      last = 1;
-      ended = Answer false;
-      finished =
-          at-once (once word) 0 0 1 (Insert 0) (Or 0 1) 0 (Answer false) (λ e. cc) refl refl refl;
-      later = lit< tt;
-      upto = lit≤ tt;
-    })
+    let e = same_Some _ _ at.here in let own : party ≡ 0 = cc in rw (own) (once-step word)
 once-each word (suc (suc m)) party ended at = absurd (none-some _ at.here)
 
 -- the end has what was inserted

@@ -30,12 +30,12 @@ mask-bits (suc p) at =
     ∙ sym (ne_eqb (suc p) 0 (λ e. absurd (omega (arith, e))))
 
 -- it is position 0 alone
-zeroth-only : (p : ℕ) → zeroth p ≡ true → p ≡ 0
+pub zeroth-only : (p : ℕ) → zeroth p ≡ true → p ≡ 0
 unfolding positions chain
 zeroth-only p on = eqb-true p 0 on
 
 -- the one member of a list of one
-only : (t u : Taken) (P : Taken → Type 0) (i : ℕ) → slice_get (t ∷ []) i ≡ Some u → P t → P u
+pub only : (t u : Taken) (P : Taken → Type 0) (i : ℕ) → slice_get (t ∷ []) i ≡ Some u → P t → P u
 only t u P zero got holds = subst P (same_Some _ _ got) holds
 only t u P (suc i) got holds = absurd (none-some u got)
 

@@ -1,11 +1,11 @@
 pub mod Blocked
 pub mod BlockedData
-pub mod BlockedFile
 pub mod BlockedLaws
 pub mod BlockedSizing
 pub mod InsertLaws
 pub mod LineCourses
 pub mod LineEnds
+pub mod LineRates
 pub mod LineRefusals
 pub mod LineSteps
 pub mod Lines

@@ -5,16 +5,17 @@ ghost use Rattle.bloom_parts.specs.Content.{content, AreWords};
 ghost use Rattle.bloom_plain.specs.Filter.{num_bits_of};
 ghost use Rattle.bloom_plain.specs.Ones.{ones_of};
 ghost use Rattle.bloom_blocked.specs.Blocked.{HasBlockedShape, contains_in_line, InsertsInLine, InsertsAllInLines, num_lines_of};
+ghost use Rattle.bloom_blocked.specs.LineRates.{BoundsLines, line_words};
 ghost use Rattle.bloom_blocked.specs.Many.{TellsFound, TellsNew};
 
 mod data;
-mod file;
 mod items;
 mod sets;
 
-use crate::words::with_range;
+use crate::rates::false_pos_of_lines;
 use crate::{many, words};
 use bloom_parts::hasher::DefaultHasher;
+use bloom_parts::math::Bracket;
 use bloom_parts::slices;
 pub use data::BlockedFilterData;
 use std::iter::Copied;
@@ -108,7 +109,7 @@ impl<S> BlockedBloomFilter<S> {
         ensures shape { HasBlockedShape self.now }
         ensures range { AreWords self.now.words }
     {
-        with_range(self.words.as_slice())
+        slices::with_range(self.words.as_slice())
     }
 
     /// An iterator over the words, word 0 first.
@@ -126,6 +127,15 @@ impl<S> BlockedBloomFilter<S> {
         ensures most { result ≤ num_bits_of self.now }
     {
         slices::count_ones(self.words.as_slice())
+    }
+
+    /// Two bounds of the rate of false positives of the filter as it is: the part of all look-ups,
+    /// each a draw of a line and of positions in it, for which it returns true.
+    pub fn false_pos_now(&self) -> Bracket
+        ensures { BoundsLines (line_words self.now.words) (num_lines_of self.now) self.now.hashes
+            result }
+    {
+        false_pos_of_lines(self.words.as_slice(), self.num_hashes)
     }
 
     /// Sets all positions of a hash, and returns whether all of them were set before.

@@ -1,6 +1,5 @@
 //! Laws of blocked filters. These functions do nothing: their contracts are the laws.
 ghost use Rattle.bloom_blocked.specs.BlockedData.{LineDataLaw};
-ghost use Rattle.bloom_blocked.specs.BlockedFile.{BlockedRefusedLaw, LineFileLaw, LineReadableLaw, NotBlockedRefusedLaw};
 ghost use Rattle.bloom_blocked.specs.BlockedLaws.{InsertInLineLaw, KeptByInsertInLineLaw, KeptByInsertsInLinesLaw, KeptByUnionOfLinesLaw, UnionOfLinesLaw, IntersectionOfLinesLaw, ClearOfLinesLaw, OneByOneLaw};
 ghost use Rattle.bloom_blocked.specs.LineCourses.{LineCourseLaw, LiveScriptLaw};
 ghost use Rattle.bloom_blocked.specs.Lines.{LinePositionsLaw, LineSubsetLaw, LineRangeLaw, OneLineLaw};
@@ -63,14 +62,4 @@ pub fn many_are_as_one_by_one<S>()
 /// the same hashes.
 pub fn data_answer_alike()
     ensures { LineDataLaw }
-{}
-
-/// A filter that is read from another's file has its words, number of hashes and key, and contains
-/// the same hashes. A file of a blocked filter is never refused where lines are read. Where the
-/// other kind is read a file is refused by name.
-pub fn file_reads_back()
-    ensures filters { LineFileLaw }
-    ensures readable { LineReadableLaw }
-    ensures blocked { BlockedRefusedLaw }
-    ensures not_blocked { NotBlockedRefusedLaw }
 {}

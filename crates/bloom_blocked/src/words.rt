@@ -1,6 +1,6 @@
 //! Calls by hash over words that lie anywhere. Eight words are a line.
 ghost use Rattle.std.specs.Prelude.{◌≡◌, ℕ, ◌+◌, ◌*◌, ◌/◌, ◌≤◌, ◌||◌, length};
-ghost use Rattle.bloom_parts.specs.Content.{content, AreWords};
+ghost use Rattle.bloom_parts.specs.Content.{content};
 ghost use Rattle.bloom_blocked.specs.Lines.{line_of, inner_of, line_positions, are_in_line};
 
 use bloom_parts::hasher::MULTIPLIER;
@@ -8,14 +8,6 @@ use bloom_parts::slices::{contains_in_few_words, insert_in_few_words};
 
 /// The number of words in a line.
 pub const LINE: usize = 8;
-
-// The same words, with the fact that each has 64 bits: a slice that was read from a field lacks it.
-pub(crate) fn with_range(words: &[u64]) -> &[u64]
-    ensures value { result.now ≡ words.now }
-    ensures range { AreWords words.now }
-{
-    words
-}
 
 /// The first word of the line of a hash, among this many words.
 #[inline(always)]

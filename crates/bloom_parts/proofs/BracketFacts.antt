@@ -4,7 +4,7 @@ use lib.Count.{count_leading_zeros, ones}
 use Rattle.bloom_parts.specs.Powers.{rounded_power, lower_power_of, upper_power_of, products_of}
 use Rattle.bloom_parts.specs.Brackets.{density_low, density_high, rate_low, rate_high}
 
--- the density of 64 bits after one was turned on is exactly 1 / 64
+-- the density of 64 bits after one was set is exactly 1 / 64
 density_low-one : density_low 64 1 ≡ 144115188075855872
 unfolding rounded_power
 density_low-one = refl
@@ -22,7 +22,7 @@ upper_power-square : upper_power_of 144115188075855872 2 ≡ 2251799813685248
 unfolding rounded_power
 upper_power-square = refl
 
--- the density of 64 bits after two were turned on
+-- the density of 64 bits after two were set
 density_low-two : density_low 64 2 ≡ 285978576338026496
 unfolding rounded_power
 density_low-two = refl
@@ -31,7 +31,7 @@ density_high-two : density_high 64 2 ≡ 285978576338026496
 unfolding rounded_power
 density_high-two = refl
 
--- the density of three bits after one was turned on is a third, which lies between two units
+-- the density of three bits after one was set is a third, which lies between two units
 density_low-third : density_low 3 1 ≡ 3074457345618258602
 unfolding rounded_power
 density_low-third = refl
@@ -40,7 +40,7 @@ density_high-third : density_high 3 1 ≡ 3074457345618258603
 unfolding rounded_power
 density_high-third = refl
 
--- the density of 64 bits after none was turned on is 0
+-- the density of 64 bits after none was set is 0
 density_low-none : density_low 64 0 ≡ 0
 unfolding rounded_power
 density_low-none = refl
@@ -49,7 +49,7 @@ density_high-none : density_high 64 0 ≡ 0
 unfolding rounded_power
 density_high-none = refl
 
--- the density of a single bit after it was turned on is one whole
+-- the density of a single bit after it was set is one whole
 density_low-whole : density_low 1 1 ≡ 9223372036854775808
 unfolding rounded_power
 density_low-whole = refl
@@ -58,7 +58,7 @@ density_high-whole : density_high 1 1 ≡ 9223372036854775808
 unfolding rounded_power
 density_high-whole = refl
 
--- the density of the greatest number of bits after one was turned on is below one unit
+-- the density of the greatest number of bits after one was set is below one unit
 density_low-wide : density_low 18446744073709551615 1 ≡ 0
 unfolding rounded_power
 density_low-wide = refl

@@ -11,7 +11,7 @@ use Rattle.bloom_parts.proofs.EndLemmas.{lower-holds, upper-holds, ends-apart, e
 use Rattle.bloom_parts.proofs.RoundingLemmas.{div_ceil-le}
 use Rattle.bloom_parts.proofs.PowerWidths.{AreApart}
 
--- the ends of the share of bits that stays off when one of b is turned on
+-- the ends of the share of bits that stays clear when one of b is set
 pub record IsKept (b low high : ℕ) : Type 0 where
   pub below : low * b ≤ 2 ^ 63 * (b - 1)
   pub above : 2 ^ 63 * (b - 1) ≤ high * b
@@ -20,7 +20,7 @@ pub record IsKept (b low high : ℕ) : Type 0 where
   pub ordered : low ≤ high
   pub near : high ≤ low + 1
 
--- the share that stays off, rounded either way, has these ends
+-- the share that stays clear, rounded either way, has these ends
 kept-ends : (b : ℕ) → 0 < b → IsKept b (2 ^ 63 * (b - 1) / b) (div_ceil (2 ^ 63 * (b - 1)) b)
 kept-ends b some =
     let x : ℕ = 2 ^ 63 * (b - 1) in record {
@@ -66,7 +66,7 @@ IsDensity bracket b t = record {
 }
 
 module _ (b t : ℕ) (some : 0 < b) (fits : t < 2 ^ 128) where
-  -- the ends of the density are ordered, since what stays off is
+  -- the ends of the density are ordered, since those of what stays clear are
   pub density-ordered : density_low b t ≤ density_high b t
   density-ordered =
       let ordered = ends-ordered _ _ t fits (kept-ends b some).ordered in

@@ -3,7 +3,7 @@ use Rattle.std.proofs.Common.{◌≡◌, ◌||◌, ◌^◌, [], ◌∷◌, refl}
 use Rattle.bloom_parts.specs.Content.{content}
 use Rattle.bloom_parts.specs.Counts.{count_on}
 
--- no position of a zero is on
+-- no position of a zero is set
 count-none : count_on (content (0 ∷ [])) 64 ≡ 0
 unfolding content count_on
 count-none = refl

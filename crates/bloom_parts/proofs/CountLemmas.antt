@@ -14,7 +14,7 @@ use Rattle.bloom_parts.specs.Content.{bit_is_on, content}
 use Rattle.bloom_parts.specs.Counts.{count_on}
 use Rattle.bloom_parts.proofs.WordLemmas.{content-at}
 
--- no more positions are on than there are
+-- no more positions are set than there are
 pub count-most : (A : ℕ → Bool) (n : ℕ) → count_on A n ≤ n
 unfolding count_on
 count-most A zero = omega arith
@@ -43,7 +43,7 @@ ones-next w j =
     ∙ ones_cat j (bit_at w j) (w % 2 ^ j) (mod-lt w (pow_pos j))
     ∙ ap (λ n. n + count_ones (w % 2 ^ j)) (ones-digit (bit_at w j) (bit_at-lt w j))
 
--- no digits are on
+-- no digits are set
 ones-none : (w : ℕ) → count_ones (w % 2 ^ 0) ≡ 0
 ones-none w = let none : w % 1 ≡ 0 = omega arith in ap count_ones none ∙ ones-zero
 

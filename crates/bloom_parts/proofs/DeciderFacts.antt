@@ -2,7 +2,7 @@
 use Rattle.std.proofs.Common.{◌≡◌, ℕ, Bool, true, false, eqb, List, [], ◌∷◌, Some, None, refl}
 use Rattle.bloom_parts.specs.Deciders.{Decider, decides_nothing, makes_on, makes_all_off, makes_off_outside, last_decision, state}
 
--- deciders that turn 1 on, then all off, then 2 on
+-- deciders that set 1, then clear all, then set 2
 abbrev deciders : List Decider
 deciders = makes_on (λ p. eqb p 1) ∷ makes_all_off ∷ makes_on (λ p. eqb p 2) ∷ []
 
@@ -29,14 +29,14 @@ state-undecided = refl
 state-still_off : state three (makes_on (λ p. eqb p 1) ∷ decides_nothing ∷ []) 2 ≡ false
 state-still_off = refl
 
--- what is outside of a set is turned off, and what is in it stays
+-- what is outside of a set is cleared, and what is in it stays
 state-inside : state three (makes_off_outside three ∷ []) 3 ≡ true
 state-inside = refl
 
 state-outside : state three (makes_on (λ p. eqb p 4) ∷ makes_off_outside three ∷ []) 4 ≡ false
 state-outside = refl
 
--- a position of the set that was off isn't turned on as the others are turned off
+-- a position of the set that was clear isn't set as the others are cleared
 state-not_on : state (λ p. false) (makes_off_outside three ∷ []) 3 ≡ false
 state-not_on = refl
 

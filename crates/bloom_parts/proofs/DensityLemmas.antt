@@ -12,7 +12,7 @@ use Rattle.bloom_parts.proofs.BracketLemmas.{density-ordered, is-density}
 left-of : (x y : ℕ) → y ≤ x → x ≡ (x - y) + y
 left-of x y less = omega (arith, less)
 
--- what is on of a whole, where a share stays off, grows with a second share that stays off
+-- what is set of a whole, where a share stays clear, grows with a second share that stays clear
 grows : (whole off more less : ℕ) → off ≤ whole → less < more → 0 < off → 0 < whole →
     (whole - off) * (whole * more) < (whole * more - off * less) * whole
 grows whole off more less fits fewer some all =
@@ -70,7 +70,7 @@ density-ends b t some fits =
       ];
     }
 
--- no bit is expected to be on after no step
+-- no bit is expected to be set after no step
 pub density-none : (b t : ℕ) → 0 < b → t ≡ 0 → (density_low b t ≡ 0) × (density_high b t ≡ 0)
 density-none b t some none =
     let is = density-ends b t some (omega (arith, none)) in

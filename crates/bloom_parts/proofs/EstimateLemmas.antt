@@ -8,7 +8,7 @@ use Rattle.bloom_parts.specs.Estimates.{IsAtMost, IsAtLeast, IsBelow, IsAbove, I
 use Rattle.bloom_parts.proofs.BracketLemmas.{sets-fit}
 use Rattle.bloom_parts.proofs.DensityLemmas.{IsEnds, density-ends, density_law}
 
--- an upper end at most ones / b, of a share that is on
+-- an upper end at most ones / b, of a share that is set
 at_most-from : (u b ones high all on : ℕ) → 0 < u → high * b ≤ u * ones → u * on ≤ high * all →
     b * on ≤ ones * all
 at_most-from u b ones high all on some reaches above =
@@ -30,7 +30,7 @@ at_least-from u b ones low all on some reaches below =
     let three : (ones * all) * u ≤ (b * on) * u = omega (arith, one, two) in
     le_of_mul-le-mul_right three some
 
--- less is on of another whole, where at most ones / b is on of the first
+-- less is set of another whole, where at most ones / b is set of the first
 below-from : (b ones all on other less : ℕ) → 0 < b → b * on ≤ ones * all →
     less * all < on * other → b * less < ones * other
 below-from b ones all on other less some at_most fewer =
@@ -40,7 +40,7 @@ below-from b ones all on other less some at_most fewer =
     mul-le b (less * all + 1) b (on * other) (omega arith) (omega (arith, fewer)) in
     lt_of_mul-lt-mul_right all (omega (arith, one, two, some))
 
--- more is on of another whole, where at least ones / b is on of the first
+-- more is set of another whole, where at least ones / b is set of the first
 above-from : (b ones all on other more : ℕ) → 0 < b → ones * all ≤ b * on →
     on * other < more * all → ones * other < b * more
 above-from b ones all on other more some at_least fewer =
@@ -58,14 +58,14 @@ module _ (b k ones : ℕ) (bits : 1 < b) (some : 0 < k) (few : k < 2 ^ 32) where
       mul-le k (items + 1) k more (omega arith) (omega (arith, less)) in
       omega (arith, step, some)
 
-  -- of fewer items than a number at which at most ones / b is expected to be on, less is
+  -- of fewer items than a number at which at most ones / b is expected to be set, less is
   below-at : (low : ℕ) → IsAtMost b (k * low) ones → (items : ℕ) → items < low →
       IsBelow b (k * items) ones
   below-at low at_most items less =
       below-from b ones _ _ _ _ (omega (arith, bits)) at_most
       (density_law b (k * items) (k * low) bits (more-sets items low less))
 
-  -- of more items than a number at which at least ones / b is expected to be on, more is
+  -- of more items than a number at which at least ones / b is expected to be set, more is
   above-at : (most : ℕ) → IsAtLeast b (k * most) ones → (items : ℕ) → most < items →
       IsAbove b (k * items) ones
   above-at most at_least items more =
@@ -119,7 +119,7 @@ module _ (b k ones : ℕ) (bits : 1 < b) (some : 0 < k) (few : k < 2 ^ 32) where
       | inr more ↦ more
     ]
 
-  -- where all bits are on, no number of items is too many: some bit is expected to be off
+  -- where all bits are set, no number of items is too many: some bit is expected to be clear
   pub all-on : (high : Option ℕ) → ones ≡ b → IfSome high (λ most. most < 2 ^ 64) →
       IfSome high (λ most. 2 ^ 63 * ones ≤ density_low b (k * most) * b) → high ≡ None
   all-on None all fits ends = refl

@@ -1,9 +1,9 @@
 -- The ends of rates of false positives at values from outside, and which rates brackets hold.
-use Rattle.std.proofs.Common.{◌≡◌, ℕ, Bool, eqb, refl, arith, lit≤}
+use Rattle.std.proofs.Common.{◌≡◌, ℕ, Bool, eqb, refl, arith, lit<, lit≤}
 use Rattle.bloom_parts.specs.declared.math.bracket.Bracket.{Bracket}
 use Rattle.bloom_parts.specs.Counts.{count_on}
 use Rattle.bloom_parts.specs.Draws.{sum_below, sum_draws, is_drawn, all_in}
-use Rattle.bloom_parts.specs.FalsePositives.{HoldsFalsePositives, HoldsPositives, HoldsEither, share_above, false_pos_high, false_pos_width, positives_low, positives_high}
+use Rattle.bloom_parts.specs.FalsePositives.{HoldsFalsePositives, HoldsPositives, HoldsEither, share_above, false_pos_high, false_pos_width, IsCapacity, positives_low, positives_high}
 use Rattle.bloom_parts.specs.Powers.{rounded_power}
 
 -- ten sixteenths, as a bracket of one number, and one unit beside it on either side
@@ -142,6 +142,24 @@ false_pos_high-thousand = refl
 false_pos_high-none : false_pos_high 64 0 3 ≡ 0
 unfolding rounded_power
 false_pos_high-none = refl
+
+-- 64 bits and 4 hashes take twelve items at a rate of 1 / 10, as these ends say, and not eleven
+false_pos_high-twelve : false_pos_high 64 48 4 ≡ 792596453736758122
+unfolding rounded_power
+false_pos_high-twelve = refl
+
+false_pos_high-thirteen : false_pos_high 64 52 4 ≡ 969688728801883019
+unfolding rounded_power
+false_pos_high-thirteen = refl
+
+capacity-twelve : IsCapacity 64 4 1 10 12
+capacity-twelve = record {
+  takes = rw false_pos_high-twelve (lit≤ tt);
+  last = λ _ more. omega (arith, rw false_pos_high-thirteen at more);
+}
+
+capacity-eleven : IsCapacity 64 4 1 10 11 → ⊥
+capacity-eleven is = is.last (lit< tt) (rw false_pos_high-twelve (lit≤ tt))
 
 -- the width
 false_pos_width-many : false_pos_width 1024 700 7 ≡ 189151184349570632

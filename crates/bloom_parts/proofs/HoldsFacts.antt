@@ -74,7 +74,7 @@ holds_density-above is = omega (arith, is.at_least)
 holds_density-below : HoldsDensity (exactly 144115188075855871 (lit≤ tt)) 64 1 → ⊥
 holds_density-below is = omega (arith, is.at_most)
 
--- the share of 64 bits after two were turned on is 127 / 4096
+-- the share of 64 bits after two were set is 127 / 4096
 holds_density-two : HoldsDensity (exactly 285978576338026496 (lit≤ tt)) 64 2
 holds_density-two = record { at_least = lit≤ tt; at_most = lit≤ tt }
 
@@ -84,14 +84,14 @@ holds_density-two_above is = omega (arith, is.at_least)
 holds_density-two_below : HoldsDensity (exactly 285978576338026495 (lit≤ tt)) 64 2 → ⊥
 holds_density-two_below is = omega (arith, is.at_most)
 
--- the share of 64 bits after none was turned on is 0
+-- the share of 64 bits after none was set is 0
 holds_density-none : HoldsDensity (exactly 0 (lit≤ tt)) 64 0
 holds_density-none = record { at_least = lit≤ tt; at_most = lit≤ tt }
 
 holds_density-unit : HoldsDensity (exactly 1 (lit≤ tt)) 64 0 → ⊥
 holds_density-unit is = omega (arith, is.at_least)
 
--- the rate of two hashes after one item, which turns on two bits, is the square of 127 / 4096
+-- the rate of two hashes after one item, which sets two bits, is the square of 127 / 4096
 holds_rate-one : HoldsRate (exactly 8867011522199552 (lit≤ tt)) 64 2 2
 holds_rate-one = record { at_least = lit≤ tt; at_most = lit≤ tt }
 
@@ -101,7 +101,7 @@ holds_rate-above is = omega (arith, is.at_least)
 holds_rate-below : HoldsRate (exactly 8867011522199551 (lit≤ tt)) 64 2 2 → ⊥
 holds_rate-below is = omega (arith, is.at_most)
 
--- the rate of two hashes where one bit of 64 was turned on is the square of 1 / 64
+-- the rate of two hashes where one bit of 64 was set is the square of 1 / 64
 holds_rate-single : HoldsRate (exactly 2251799813685248 (lit≤ tt)) 64 1 2
 holds_rate-single = record { at_least = lit≤ tt; at_most = lit≤ tt }
 

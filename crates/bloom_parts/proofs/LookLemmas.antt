@@ -29,7 +29,7 @@ tells_next-then a b count x y words r s all moved one two hash i at =
     ∙ ap (λ c. are_on words i a hash && c) (two hash (i + a) (moved hash i at))
     ∙ sym (are_on-append words i a b hash) ∙ ap (λ m. are_on words i m hash) all
 
--- the first places are on, and then the next one
+-- the first places are set, and then the next one
 pub tells_next-on : (places : ℕ) (x y : DoubleHasher) (words : List ℕ) (r : Bool)
     → Advances places x y → TellsNext places x words true → r ≡ true → TellsNext 1 y words r
     → TellsNext (places + 1) x words true
@@ -42,7 +42,7 @@ pub tells_next-as : (count : ℕ) (chain : DoubleHasher) (words : List ℕ) (r s
     → TellsNext count chain words r → TellsNext count chain words s
 tells_next-as count chain words r s same = subst (TellsNext count chain words) same
 
--- where the next places are not all on, more of them aren't either
+-- where the next places are not all set, more of them aren't either
 pub tells_next-off : (a count : ℕ) (chain : DoubleHasher) (words : List ℕ) → a ≤ count
     → TellsNext a chain words false → TellsNext count chain words false
 tells_next-off a count chain words fewer off hash i at =
@@ -50,7 +50,7 @@ tells_next-off a count chain words fewer off hash i at =
     ap (λ c. c && are_on words (i + a) (count - a) hash) (off hash i at)
     ∙ sym (are_on-append words i a (count - a) hash) ∙ ap (λ m. are_on words i m hash) all
 
--- where the first places are on and the next one is off, more of them aren't all on
+-- where the first places are set and the next one is clear, more of them aren't all set
 pub tells_next-stops : (places count : ℕ) (x y : DoubleHasher) (words : List ℕ) (r : Bool)
     → places + 1 ≤ count → Advances places x y → TellsNext places x words true → r ≡ false
     → TellsNext 1 y words r → TellsNext count x words false
@@ -65,7 +65,7 @@ module _ {hash : ℕ} {chain : DoubleHasher} (k : ℕ) (words : List ℕ) (at : 
       → r ≡ are_in (64 * length words) k hash (content words)
   tells-all r tells = tells hash 0 at ∙ are_in_from-start (64 * length words) k hash (content words)
 
-  -- where one of the first places is off, not all places of the hash are on
+  -- where one of the first places is clear, not all places of the hash are set
   pub tells-off : (a : ℕ) → a ≤ k → TellsNext a chain words false
       → false ≡ are_in (64 * length words) k hash (content words)
   tells-off a fewer off = tells-all false (tells_next-off a k chain words fewer off)
@@ -75,7 +75,7 @@ pub digit-most : (b : Bool) → bool_byte b ≤ 1
 digit-most true = omega arith
 digit-most false = omega arith
 
--- all of one place more are on exactly if all before are and this one is
+-- all of one place more are set exactly if all before are and this one is
 pub one-more : (on places : ℕ) (b : Bool) → on ≤ places
     → eqb (on + bool_byte b) (places + 1) ≡ (eqb on places && b)
 one-more on places true most = elim (cases_eq on places) [

@@ -18,7 +18,7 @@ bernoulli m (suc n) =
     mul-le ((m + n) * m ^ n) (m + 1) (m * (m + 1) ^ n) (m + 1) before (omega arith) in
     rw (pow-suc m n, pow-suc (m + 1) n) (omega (arith, step))
 
--- what is kept off, from above at first and from below later, by how much a power falls
+-- what is kept clear, from above at first and from below later, by how much a power falls
 kept-falls : (u first later all off more less : ℕ) → 0 < all → u * off ≤ first * all →
     later * (all * more) ≤ u * (off * less) → later * more ≤ first * less
 kept-falls u first later all off more less some above below =
@@ -38,7 +38,7 @@ kept-slope m n first later more less some steep falls =
     let three : (later * (m + n)) * less ≤ (first * m) * less = omega (arith, one, two) in
     le_of_mul-le-mul_right three some
 
--- what is kept off beside a bound of what is on
+-- what is kept clear beside a bound of what is set
 kept-above : (u low all off : ℕ) → low ≤ u → off ≤ all → low * all ≤ u * (all - off) →
     u * off ≤ (u - low) * all
 kept-above u low all off fits within below =
@@ -83,7 +83,7 @@ module _ (b k ones : ℕ) (bits : 1 < b) (some : 0 < k) where
         let sum : k * y ≡ k * x + k * (y - x) = ap (λ n. k * n) items ∙ omega arith in
         ap (λ n. c ^ n) sum ∙ pow-add c (k * x) (k * (y - x))
 
-    -- what is kept off falls with each item
+    -- what is kept clear falls with each item
     slope : (2 ^ 63 - density_high b (k * y)) * (b - 1 + k * (y - x))
         ≤ (2 ^ 63 - density_low b (k * x)) * (b - 1)
     slope =

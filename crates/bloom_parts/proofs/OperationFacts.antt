@@ -10,7 +10,7 @@ use Rattle.bloom_parts.specs.Operations.{state_after, reply}
 abbrev three : ℕ → Bool
 three p = eqb p 3
 
--- an insert turns its position on, and no other
+-- an insert sets its position, and no other
 after_insert-on : state_after 64 1 three (operation.Insert (2 ^ 63) ∷ []) 32 ≡ true
 unfolding positions chain
 after_insert-on = refl
@@ -19,7 +19,7 @@ after_insert-other : state_after 64 1 three (operation.Insert (2 ^ 63) ∷ []) 3
 unfolding positions chain
 after_insert-other = refl
 
--- an insert turns all its positions on: with two hashes those of 1 among 128 are 0 and 40
+-- an insert sets all its positions: with two hashes those of 1 among 128 are 0 and 40
 after_insert-first : state_after 128 2 three (operation.Insert 1 ∷ []) 0 ≡ true
 unfolding positions chain
 after_insert-first = refl
@@ -28,12 +28,12 @@ after_insert-second : state_after 128 2 three (operation.Insert 1 ∷ []) 40 ≡
 unfolding positions chain
 after_insert-second = refl
 
--- a look-up turns nothing on
+-- a look-up sets nothing
 after_contains : state_after 64 1 three (operation.Contains (2 ^ 63) ∷ []) 32 ≡ false
 unfolding positions chain
 after_contains = refl
 
--- a clear turns off what was on, and not what is turned on later
+-- a clear clears what was set, and not what is set later
 after_clear : state_after 64 1 three (operation.Clear ∷ []) 3 ≡ false
 after_clear = refl
 
@@ -42,7 +42,7 @@ after_clear-insert : state_after 64 1 three (operation.Clear ∷ operation.Inser
 unfolding positions chain
 after_clear-insert = refl
 
--- a union keeps what was on, and an intersection only what is in the other
+-- a union keeps what was set, and an intersection only what is in the other
 after_union-kept : state_after 64 1 three (operation.Union (λ p. eqb p 5) ∷ []) 3 ≡ true
 after_union-kept = refl
 
@@ -55,7 +55,7 @@ after_intersect = refl
 after_intersect-other : state_after 64 1 three (operation.Intersect (λ p. eqb p 5) ∷ []) 5 ≡ false
 after_intersect-other = refl
 
--- inserts and look-ups reply whether their positions are on, and the others don't reply
+-- inserts and look-ups reply whether their positions are set, and the others don't reply
 reply-insert : reply 64 1 three (operation.Insert (2 ^ 63)) ≡ Some false
 unfolding are_in chain
 reply-insert = refl
@@ -73,7 +73,7 @@ reply-union = refl
 reply-intersect : reply 64 1 three (operation.Intersect three) ≡ None
 reply-intersect = refl
 
--- the reply is true only if all positions are on: 0 and 40 among 128 bits with two hashes
+-- the reply is true only if all positions are set: 0 and 40 among 128 bits with two hashes
 reply-both : reply 128 2 (λ p. eqb p 0 || eqb p 40) (operation.Contains 1) ≡ Some true
 unfolding are_in chain
 reply-both = refl

@@ -81,7 +81,7 @@ are_in-at n (suc k) hash A i below all =
       | inr late ↦ let same : i ≡ k = omega arith in ap (λ j. A (place n hash j)) same ∙ parts.1
     ]
 
--- one that is off decides the reply
+-- one that is clear decides the reply
 pub are_in-off : (n k hash : ℕ) (A : ℕ → Bool) (i : ℕ) → i < k → A (place n hash i) ≡ false
     → are_in n k hash A ≡ false
 are_in-off n k hash A i below off =

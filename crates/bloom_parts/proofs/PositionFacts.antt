@@ -25,7 +25,7 @@ bit_is_on-twenty = refl
 bit_is_on-beside : bit_is_on 1048576 85 ≡ false
 bit_is_on-beside = refl
 
--- past the last word no position is on
+-- past the last word no position is set
 content-past : content (0xffff_ffff_ffff_ffff ∷ []) 64 ≡ false
 unfolding content
 content-past = refl
@@ -145,7 +145,7 @@ from_equality-two law a b c d first second same =
 from_bound-one : BoundLaw → (word p : ℕ) → content (word ∷ []) p ≡ true → p < 64
 from_bound-one law word p on = law (word ∷ []) p on
 
--- no position is on in no words
+-- no position is set in no words
 from_bound : BoundLaw → (words : List ℕ) → content words 0 ≡ true → words ≡ [] → ⊥
 from_bound law words on none = omega (arith, law words 0 on, ap length none)
 

@@ -6,26 +6,24 @@
 pub use Rattle.bloom_parts.proofs.PlaceLemmas.{position-from, position-to, place-position}
 pub use Rattle.bloom_parts.proofs.PlaceLemmas.{range_law}
 pub use Rattle.bloom_parts.proofs.PlaceLemmas.{part-from, part-to}
--- where all are in a set each is, and one that is off decides
-pub use Rattle.bloom_parts.proofs.PlaceLemmas.{are_in-at, are_in-off}
+-- one that isn't in a set decides
+pub use Rattle.bloom_parts.proofs.PlaceLemmas.{are_in-off}
 -- a power of a power
 pub use Rattle.bloom_parts.proofs.PowerBounds.{pow-pow}
--- the test of a bit, and the one position of a mask
-pub use Rattle.bloom_parts.proofs.ContentLemmas.{test-bit, bit_is_on-mask}
+-- the one position of a mask
+pub use Rattle.bloom_parts.proofs.ContentLemmas.{bit_is_on-mask}
 -- bits of words that are or-ed or and-ed, and of the word 0
 pub use Rattle.bloom_parts.proofs.ContentLemmas.{bit_is_on-or, bit_is_on-and, bit_is_on-zero}
--- a position that is turned on by its mask
+-- a position that is set by its mask
 pub use Rattle.bloom_parts.proofs.ContentLemmas.{content-set, get_or-itself}
--- the content at a bit of a word, and past the words, where no position is on
+-- the content at a bit of a word, and past the words, where no position is set
 pub use Rattle.bloom_parts.proofs.WordLemmas.{content-at, content-past}
--- no position is on in zero words
+-- no position is set in zero words
 pub use Rattle.bloom_parts.proofs.SetLemmas.{content-zeros}
 -- two lists of deciders, one after the other, and the decisions that they come to
 pub use Rattle.bloom_parts.proofs.DeciderLemmas.{last_decision-append, state-append}
-pub use Rattle.bloom_parts.proofs.DeciderLemmas.{option_or-assoc, unwrap_or-option_or}
+pub use Rattle.bloom_parts.proofs.DeciderLemmas.{unwrap_or-option_or}
 -- bytes and more bytes are bytes
 pub use Rattle.bloom_parts.proofs.BufferLemmas.{AreBytes-append}
--- a word behind others adds its own bits, and no more positions are on than there are
+-- a word behind others adds its own bits, and no more positions are set than there are
 pub use Rattle.bloom_parts.proofs.CountLemmas.{count-push, count-most}
--- a set answers a power of its share of all queries
-pub use Rattle.bloom_parts.proofs.MeanLemmas.{positives_law}

@@ -9,10 +9,11 @@ use Rattle.bloom_parts.specs.declared.math.bracket.Bracket.{Bracket}
 use Rattle.bloom_parts.specs.Brackets.{low_of, high_of, width_of, Holds, HoldsDensity}
 use Rattle.bloom_parts.specs.Counts.{count_on}
 use Rattle.bloom_parts.specs.Draws.{drawn_lists, false_positives, positives}
-use Rattle.bloom_parts.specs.FalsePositives.{HoldsFalsePositives, HoldsPositives, HoldsEither, share_above, false_pos_width}
+use Rattle.bloom_parts.specs.FalsePositives.{HoldsFalsePositives, HoldsPositives, HoldsEither, share_above, false_pos_high, false_pos_width}
 use Rattle.bloom_parts.specs.Powers.{lower_power_of, upper_power_of}
 use Rattle.bloom_parts.proofs.CountLemmas.{count-most}
-use Rattle.bloom_parts.proofs.EndLemmas.{lower-holds, upper-holds}
+use Rattle.bloom_parts.proofs.DensityLemmas.{density-none}
+use Rattle.bloom_parts.proofs.EndLemmas.{lower-holds, upper-holds, upper-none}
 use Rattle.bloom_parts.proofs.RateEndLemmas.{false_positives-most, false_positives-mean, rate-above, rate-below, raised, raised-fits, raised-near}
 use Rattle.bloom_parts.proofs.MeanLemmas.{positives_law}
 use Rattle.bloom_parts.proofs.RoundingLemmas.{div_ceil-le}
@@ -186,3 +187,9 @@ either-between first second either low_is high_is n A B one other =
           (count-most (λ q. A q || B q) n)
           (omega (arith, one.at_most, other.at_most, counts.2)));
     }
+
+-- no item errs
+pub rate-none : (b k : ℕ) → 0 < b → 0 < k → k < 2 ^ 128 → false_pos_high b (k * 0) k ≡ 0
+rate-none b k bits some fits =
+    let (_, none) = density-none b (k * 0) bits (omega arith) in
+    ap (λ high. upper_power_of (share_above b k high) k) none ∙ upper-none k fits some

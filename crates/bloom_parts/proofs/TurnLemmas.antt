@@ -1,4 +1,4 @@
--- Stretches of the places of a hash that are turned on one after the other.
+-- Stretches of the places of a hash that are set one after the other.
 use Rattle.std.proofs.Common.{◌≡◌, ℕ, zero, suc, ◌+◌, ◌*◌, Bool, true, false, ◌||◌, ◌&&◌, eqb, bit_or, List, length, refl, sym, subst, ◌∙◌, ap, arith}
 use Rattle.std.proofs.Math.Bool.{or-false, or_assoc}
 use Rattle.std.proofs.lemmas.Bool.{ne_eqb}
@@ -21,7 +21,7 @@ none-of-both (suc a) b =
     let first : eqb (suc a) 0 ≡ false = ne_eqb (suc a) 0 (λ none. absurd (omega (arith, none))) in
     both ∙ ap (λ c. c && eqb b 0) (sym first)
 
--- two stretches are turned on one after the other
+-- two stretches are set one after the other
 turns_on-append : (i a b h : ℕ) (old mid new : List ℕ) (r s : Bool)
     → TurnsOn i a h old mid r → TurnsOn (i + a) b h mid new s → TurnsOn i (a + b) h old new (r && s)
 turns_on-append i a b h old mid new r s one two =
@@ -43,14 +43,14 @@ turns_on-append i a b h old mid new r s one two =
       shape = two.shape ∙ one.shape;
     }
 
--- the same where one word gathers what was off
+-- the same where one word gathers what was clear
 turns_on-both : (i a b h : ℕ) (old mid new : List ℕ) (v w : ℕ) → TurnsOn i a h old mid (eqb v 0)
     → TurnsOn (i + a) b h mid new (eqb w 0) → TurnsOn i (a + b) h old new (eqb (bit_or v w) 0)
 turns_on-both i a b h old mid new v w one two =
     subst (TurnsOn i (a + b) h old new) (sym (none-of-both v w))
     (turns_on-append i a b h old mid new (eqb v 0) (eqb w 0) one two)
 
--- no place is turned on
+-- no place is set
 turns_on-none : (i h : ℕ) (words : List ℕ) → TurnsOn i 0 h words words true
 turns_on-none i h words = record {
   answers = sym (are_in_from-zero (64 * length words) i h (content words));
@@ -71,12 +71,12 @@ advances-then a b x y z one two hash i at =
 pub advances-none : (x : DoubleHasher) → Advances 0 x x
 advances-none x hash i at = let same : i ≡ i + 0 = omega arith in subst (λ m. IsAt hash m x) same at
 
--- at the start of a chain no place has been turned on
+-- at the start of a chain no place has been set
 pub turned_on-none : (hash : ℕ) (words : List ℕ) (chain : DoubleHasher) → IsAt hash 0 chain
     → HasTurnedOn hash 0 words words chain 0
 turned_on-none hash words chain at = record { stands = at; turned = turns_on-none 0 hash words }
 
--- at the start of a chain one call turns them on
+-- at the start of a chain one call sets them
 pub turned_on-once : {hash count : ℕ} {old new : List ℕ} {x y : DoubleHasher} {w : ℕ}
     → IsAt hash 0 x
     → record { turns_on : TurnsOnNext count x old new w; moved : Advances count x y }
@@ -88,7 +88,7 @@ turned_on-once {hash} {count} {old} {new} {x} {y} {w} at next =
       turned = next.turns_on hash 0 at;
     }
 
--- some more are turned on by one call
+-- some more are set by one call
 pub turned_on-add : {hash a count : ℕ} {old mid new : List ℕ} {x y : DoubleHasher} {v : ℕ}
     (b w : ℕ) → a + b ≡ count → HasTurnedOn hash a old mid x v
     → record { turns_on : TurnsOnNext b x mid new w; moved : Advances b x y }
@@ -105,13 +105,13 @@ turned_on-add {hash} {a} {count} {old} {mid} {new} {x} {y} {v} b w all done next
 
 module _ {hash count k : ℕ} {old new : List ℕ} {chain : DoubleHasher} {was_off : ℕ}
     (all : count ≡ k) (done : HasTurnedOn hash count old new chain was_off) where
-  -- once all places of a hash were turned on, the word tells whether all were on before
+  -- once all places of a hash were set, the word tells whether all were set before
   pub turned_on-reply : eqb was_off 0 ≡ are_in (64 * length old) k hash (content old)
   turned_on-reply =
       done.turned.answers ∙ are_in_from-start (64 * length old) count hash (content old)
       ∙ ap (λ m. are_in (64 * length old) m hash (content old)) all
 
-  -- once all places of a hash were turned on, its positions are on besides what was
+  -- once all places of a hash were set, its positions are set besides what was
   pub turned_on-content : (p : ℕ) → content new p
       ≡ (content old p || positions (64 * length old) k hash p)
   turned_on-content p =

@@ -46,7 +46,7 @@ equal_words_law a b fit fit' long = (
   same_words a b fit fit' long,
 )
 
--- past the words no position is on
+-- past the words no position is set
 pub content-past : (words : List ℕ) (p : ℕ) → length words ≤ p / 64 → content words p ≡ false
 unfolding content
 content-past words p past =

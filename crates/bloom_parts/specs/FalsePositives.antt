@@ -1,6 +1,6 @@
 -- Brackets of rates of false positives that are counts of draws: of one filter, and of one of
 -- several. The unit of 2^-63 and the exact ends are this project's own.
-use Rattle.std.specs.Prelude.{◌≡◌, ℕ, ◌+◌, ◌-◌, ◌*◌, ◌/◌, ◌^◌, ◌≤◌, max, min, nat_eq, Bool, ◌||◌, if◌then◌else◌}
+use Rattle.std.specs.Prelude.{◌≡◌, ℕ, ◌+◌, ◌-◌, ◌*◌, ◌/◌, ◌^◌, ◌<◌, ◌≤◌, max, min, nat_eq, Bool, ◌||◌, if◌then◌else◌}
 use Rattle.std.specs.Int.{div_ceil}
 use Rattle.bloom_parts.specs.declared.math.bracket.Bracket.{Bracket}
 use Rattle.bloom_parts.specs.Brackets.{low_of, high_of, width_of, Holds, density_high}
@@ -25,6 +25,16 @@ share_above b k high = if nat_eq high 0 then 0 else
 -- the upper end of the rate of false positives
 abbrev pub false_pos_high : ℕ → ℕ → ℕ → ℕ
 false_pos_high b t k = upper_power_of (share_above b k (density_high b t)) k
+
+-- b bits take n items of k hashes at a rate of num / den, which the upper end of their mean rate is
+-- not above
+abbrev pub TakesItems : ℕ → ℕ → ℕ → ℕ → ℕ → Type 0
+TakesItems b k num den n = false_pos_high b (k * n) k * den ≤ 2 ^ 63 * num
+
+-- they take this many items, and not one more
+pub record IsCapacity (b k num den n : ℕ) : Type 0 where
+  pub takes : TakesItems b k num den n
+  pub last : n + 1 < 2 ^ 64 → TakesItems b k num den (n + 1) → ⊥
 
 -- how far the ends of the rate may be apart
 abbrev pub false_pos_width : ℕ → ℕ → ℕ → ℕ

@@ -45,14 +45,6 @@ pub fn word_and_mask(position: usize) -> (usize, u64)
     (position / 64, 1 << (position % 64))
 }
 
-// The same words, with the fact that each has 64 bits: a slice that was read from a field lacks it.
-fn with_range(words: &[u64]) -> &[u64]
-    ensures value { result.now ≡ words.now }
-    ensures range { AreWords words.now }
-{
-    words
-}
-
 /// Words of 64 bits, from 1 to 2^58 - 1 of them. Contracts see the list of the words.
 #[derive(Debug, Drop)]
 pub struct BitVec {
@@ -116,7 +108,7 @@ impl BitVec {
         ensures most { length result.now < 2 ^ 58 }
         ensures range { AreWords self.now }
     {
-        with_range(self.words.as_slice())
+        slices::with_range(self.words.as_slice())
     }
 
     /// An iterator over the words, word 0 first.

@@ -1,6 +1,7 @@
 //! Rates, sizes, brackets of false positive rates, and estimates of items, all in whole numbers.
 mod alike;
 mod bracket;
+mod capacities;
 mod estimate;
 mod estimated;
 mod expected;
@@ -13,6 +14,7 @@ mod sizing;
 
 pub use alike::{estimated_common, estimated_part};
 pub use bracket::Bracket;
+pub use capacities::capacity;
 pub use estimate::Estimate;
 pub use estimated::estimated_items;
 pub use expected::{expected_density, expected_false_pos};

@@ -4,7 +4,7 @@
 //! `BitVec` and the library for C are made of these. Each word has 64 bits, and word 0 is first.
 ghost use Rattle.std.specs.Prelude.{◌≡◌, ℕ, ◌*◌, ◌^◌, ◌<◌, ◌≤◌, ◌||◌, ◌&&◌, ◌↔◌, false, IsTrue, length};
 ghost use Rattle.std.specs.Int.Count.{ones};
-ghost use Rattle.bloom_parts.specs.Content.{content};
+ghost use Rattle.bloom_parts.specs.Content.{content, AreWords};
 ghost use Rattle.bloom_parts.specs.Counts.{count_on};
 
 mod kernels;
@@ -23,6 +23,15 @@ pub const WORDS_BEYOND_CACHE: usize = 1 << 19;
 
 /// How many hashes are taken together where a filter is larger than a cache.
 pub const HASHES_TOGETHER: usize = 16;
+
+/// The same words, with the fact that each has 64 bits, which a slice that was read from a field
+/// lacks.
+pub fn with_range(words: &[u64]) -> &[u64]
+    ensures value { result.now ≡ words.now }
+    ensures range { AreWords words.now }
+{
+    words
+}
 
 /// Clears every position.
 pub fn clear(words: &mut [u64])

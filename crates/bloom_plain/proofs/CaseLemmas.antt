@@ -28,7 +28,7 @@ alike-below (suc n) A B all p below =
       | inr apart ↦ alike-below n A B parts.0 p (omega (arith, below, apart))
     ]
 
--- past the bits of words no position is on
+-- past the bits of words no position is set
 pub content-past : (words : List ℕ) (p : ℕ) → 64 * length words ≤ p → content words p ≡ false
 unfolding content
 content-past words p past =

@@ -122,7 +122,7 @@ alike one other same = record {
   found = λ hash. refl;
 }
 
--- filters of one hash and of two answer hash 1 differently, where only its first position is on
+-- filters of one hash and of two answer hash 1 differently, where only its first position is set
 alike-hashes : (hasher : CloneBuildHasher RandomDefaultHasher)
     → AnswerAlike (filter (1 ∷ []) 1 hasher) (filter (1 ∷ []) 2 hasher) → ⊥
 unfolding content chain are_in
@@ -134,7 +134,7 @@ alike-hashes_zero : (hasher : CloneBuildHasher RandomDefaultHasher)
     → AnswerAlike (filter (0 ∷ []) 1 hasher) (filter (0 ∷ []) 2 hasher) → ⊥
 alike-hashes_zero hasher same = let wrong : 2 ≡ 1 = same.hashes in omega (arith, wrong)
 
--- filters answer hash 1 differently, where its second position is on in one alone
+-- filters answer hash 1 differently, where its second position is set in one alone
 alike-word : (hasher : CloneBuildHasher RandomDefaultHasher)
     → AnswerAlike (filter (1048577 ∷ []) 2 hasher) (filter (1 ∷ []) 2 hasher) → ⊥
 unfolding content chain are_in

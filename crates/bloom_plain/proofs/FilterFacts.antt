@@ -80,37 +80,37 @@ positions_of-wide : positions_of (filter (0 ∷ 0 ∷ []) 3 7) 1 20 ≡ false
 unfolding chain positions
 positions_of-wide = refl
 
--- with two hashes, hash 1 is contained where its two positions are on
+-- with two hashes, hash 1 is contained where its two positions are set
 contains-two : contains (filter (1048577 ∷ []) 2 7) 1 ≡ true
 unfolding content chain are_in
 contains-two = refl
 
--- hash 1 isn't contained where its second position is off
+-- hash 1 isn't contained where its second position is clear
 contains-first_alone : contains (filter (1 ∷ []) 2 7) 1 ≡ false
 unfolding content chain are_in
 contains-first_alone = refl
 
--- hash 1 isn't contained where its first position is off
+-- hash 1 isn't contained where its first position is clear
 contains-second_alone : contains (filter (1048576 ∷ []) 2 7) 1 ≡ false
 unfolding content chain are_in
 contains-second_alone = refl
 
--- with three hashes, hash 1 isn't contained where its third position is off
+-- with three hashes, hash 1 isn't contained where its third position is clear
 contains-three : contains (filter (1048577 ∷ []) 3 7) 1 ≡ false
 unfolding content chain are_in
 contains-three = refl
 
--- with three hashes, hash 1 is contained where its three positions are on
+-- with three hashes, hash 1 is contained where its three positions are set
 contains-all : contains (filter (4296015873 ∷ []) 3 7) 1 ≡ true
 unfolding content chain are_in
 contains-all = refl
 
--- among 128 bits, hash 1 is contained where the positions 0, 40 and 64 are on
+-- among 128 bits, hash 1 is contained where the positions 0, 40 and 64 are set
 contains-wide : contains (filter (1099511627777 ∷ 1 ∷ []) 3 7) 1 ≡ true
 unfolding content chain are_in
 contains-wide = refl
 
--- among 128 bits, hash 1 isn't contained where position 64, in the second word, is off
+-- among 128 bits, hash 1 isn't contained where position 64, in the second word, is clear
 contains-wide_off : contains (filter (1099511627777 ∷ 0 ∷ []) 3 7) 1 ≡ false
 unfolding content chain are_in
 contains-wide_off = refl

@@ -23,12 +23,12 @@ inserts-word old new k hash reply fits answers alike = record {
   hasher = refl;
 }
 
--- an insert of hash 1 into a zero word turns on its two positions
+-- an insert of hash 1 into a zero word sets its two positions
 pub inserts-first : Inserts (filter (0 ∷ []) 2 7) 1 (filter (1048577 ∷ []) 2 7) false
 unfolding content positions chain are_in
 inserts-first = inserts-word 0 1048577 2 1 false (lit< tt) refl refl
 
--- an insert of hash 1 into a word that has its first position turns on the second
+-- an insert of hash 1 into a word that has its first position sets the second
 pub inserts-rest : Inserts (filter (1 ∷ []) 2 7) 1 (filter (1048577 ∷ []) 2 7) false
 unfolding content positions chain are_in
 inserts-rest = inserts-word 1 1048577 2 1 false (lit< tt) refl refl
@@ -38,12 +38,12 @@ pub inserts-again : Inserts (filter (1048577 ∷ []) 2 7) 1 (filter (1048577 ∷
 unfolding content positions chain are_in
 inserts-again = inserts-word 1048577 1048577 2 1 true (lit< tt) refl refl
 
--- an insert of hash 0 turns on position 0, which it has twice
+-- an insert of hash 0 sets position 0, which it has twice
 pub inserts-zero : Inserts (filter (0 ∷ []) 2 7) 0 (filter (1 ∷ []) 2 7) false
 unfolding content positions chain are_in
 inserts-zero = inserts-word 0 1 2 0 false (lit< tt) refl refl
 
--- with three hashes, an insert of hash 1 turns on three positions
+-- with three hashes, an insert of hash 1 sets three positions
 inserts-three : Inserts (filter (0 ∷ []) 3 7) 1 (filter (4296015873 ∷ []) 3 7) false
 unfolding content positions chain are_in
 inserts-three = inserts-word 0 4296015873 3 1 false (lit< tt) refl refl
@@ -58,17 +58,17 @@ inserts-reply_false : Inserts (filter (1048577 ∷ []) 2 7) 1 (filter (1048577 �
 unfolding content chain are_in
 inserts-reply_false did = let wrong : false ≡ true = did.answers in cc
 
--- an insert leaves no position of its hash off
+-- an insert leaves no position of its hash clear
 inserts-less : Inserts (filter (0 ∷ []) 2 7) 1 (filter (1 ∷ []) 2 7) false → ⊥
 unfolding content positions chain
 inserts-less did = let wrong : false ≡ true = did.bits 20 in cc
 
--- an insert turns on no position but those of its hash
+-- an insert sets no position but those of its hash
 inserts-more : Inserts (filter (0 ∷ []) 2 7) 1 (filter (1048585 ∷ []) 2 7) false → ⊥
 unfolding content positions chain
 inserts-more did = let wrong : true ≡ false = did.bits 3 in cc
 
--- an insert turns no position off
+-- an insert clears no position
 inserts-off : Inserts (filter (8 ∷ []) 2 7) 1 (filter (1048577 ∷ []) 2 7) false → ⊥
 unfolding content positions chain
 inserts-off did = let wrong : false ≡ true = did.bits 3 in cc

@@ -58,7 +58,7 @@ spares-zero : Spares (positions 64 1 0) (Intersect (content (6 ∷ []))) → ⊥
 unfolding content positions chain
 spares-zero spare = let wrong : false ≡ true = spare 0 refl in cc
 
--- hash 0 is contained where position 0 is on
+-- hash 0 is contained where position 0 is set
 zero-found : contains (one_word 1) 0 ≡ true
 unfolding content chain are_in
 zero-found = refl

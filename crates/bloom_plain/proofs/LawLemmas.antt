@@ -30,7 +30,7 @@ contains-greater old new hash same part found =
     ∙ are_in-greater (num_bits_of old) old.hashes hash (content old.words) (content new.words)
     part found
 
--- the positions of the hash are on after the insert
+-- the positions of the hash are set after the insert
 pub insert_law : (S : Type 0) → InsertLaw S
 insert_law S old new hash reply did = (
   did.answers,
@@ -91,7 +91,7 @@ union_law S old other new hash same did either =
           (sym (contains-shape old other hash same) ∙ found)
     ]
 
--- the first position of the hash is off after a clear
+-- the first position of the hash is clear after a clear
 pub clear_law : (S : Type 0) → ClearLaw S
 clear_law S old new hash shape did =
     let n = num_bits_of old in

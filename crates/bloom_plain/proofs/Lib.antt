@@ -1,63 +1,27 @@
-mod AcceptedLemmas
 mod AlgebraLemmas
-mod BlockLemmas
 mod BuilderFacts
 mod BuilderLemmas
 pub mod CaseLemmas
 mod DataFacts
-mod DataLemmas
-mod DifferentLemmas
+pub mod DataLemmas
 mod EqualityFacts
-mod FileErrorFacts
-mod FileFacts
-mod FileInputFacts
-pub mod FileLawLemmas
-mod FileLemmas
-mod FileNumberFacts
-mod FileOfFacts
-mod FileReadFacts
-mod FileRefusalFacts
-mod FileRoomFacts
-mod FileStopFacts
-mod FilterFacts
-mod FoundLemmas
-mod GrowingFacts
-mod GrowingInsertFacts
-mod GrowingKeptLemmas
-mod GrowingLawLemmas
-mod GrowingLemmas
-mod GrowingRateFacts
-mod GrowingRateLemmas
-mod GrowingRefusalFacts
-mod GrowingRefusalLemmas
-mod GrowingTakesLemmas
+pub mod FilterFacts
+pub mod FoundLemmas
 mod HashFacts
-mod HeadRefusalFacts
-mod InsertFacts
+pub mod InsertFacts
 mod InsertListFacts
 mod LawFacts
-mod LawLemmas
-mod LayoutFacts
-mod LayoutRefusalFacts
+pub mod LawLemmas
 mod ListFacts
 mod ListLemmas
-mod NumberLemmas
 mod OnesFacts
 mod OnesLemmas
 mod QueueLemmas
 mod RateFacts
 mod RateLemmas
-mod ReadLemmas
-mod RecentLemmas
-mod RefusalLemmas
-mod ReplyLemmas
-mod RotatingFacts
-mod RotatingLemmas
-mod RotatingRuleFacts
-mod SealLemmas
-mod SetFacts
+pub mod ReplyLemmas
+pub mod SetFacts
 mod SetLawFacts
-mod TogetherLemmas
-mod ToldLemmas
+pub mod TogetherLemmas
 mod UnitedFacts
 mod UnitedLemmas

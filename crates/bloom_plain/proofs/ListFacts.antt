@@ -49,7 +49,7 @@ replies-one_by_one = refl
 replies-none : replies 64 2 (content (0 ∷ [])) [] ≡ []
 replies-none = refl
 
--- the list of single commands leaves nothing on, since it ends with a clear
+-- the list of single commands leaves nothing set, since it ends with a clear
 pub carried_out : CarriesOut (filter (0 ∷ []) 2 7) one_by_one (filter (0 ∷ []) 2 7)
     (false ∷ false ∷ true ∷ true ∷ false ∷ [])
 unfolding content
@@ -70,7 +70,7 @@ carried_out-more : CarriesOut (filter (0 ∷ []) 2 7) one_by_one (filter (0 ∷ 
     (false ∷ false ∷ true ∷ true ∷ true ∷ false ∷ []) → ⊥
 carried_out-more did = let wrong = did.answers ∙ replies-one_by_one in cc
 
--- a list with a clear at its end leaves no position on
+-- a list with a clear at its end leaves no position set
 carried_out-bit : CarriesOut (filter (0 ∷ []) 2 7) one_by_one (filter (1 ∷ []) 2 7)
     (false ∷ false ∷ true ∷ true ∷ false ∷ []) → ⊥
 unfolding content positions chain
@@ -102,14 +102,14 @@ operation_of-other : map (operation_of {S = ℕ})
     ≡ operation.Union (content (6 ∷ [])) ∷ operation.Intersect (content (6 ∷ [])) ∷ []
 operation_of-other = refl
 
--- the list with other filters leaves nothing on past the filter's bits
+-- the list with other filters leaves nothing set past the filter's bits
 past_with_others : (p : ℕ) → 64 ≤ p
     → state_after 64 1 (content (5 ∷ [])) (map operation_of with_others) p ≡ false
 past_with_others p past =
     rw (positions-past 64 1 0 p (lit< tt) (lit< tt) past)
     (rw (content-past (8 ∷ []) p past) (rw (content-past (6 ∷ []) p past) refl))
 
--- the list with other filters makes 4 of 5, then 12, and then turns on position 0
+-- the list with other filters makes 4 of 5, then 12, and then sets position 0
 pub carried_out-others : CarriesOut (filter (5 ∷ []) 1 7) (map operation_of with_others)
     (filter (13 ∷ []) 1 7) (false ∷ false ∷ [])
 unfolding content positions chain are_in

@@ -80,7 +80,7 @@ module _ (one : IsHalvings 1 2 64) where
       let wrong : 2 ≡ 1 = hashes ∙ ap (λ b. (sized_filter (empty_start half b) 1000).hashes) bits in
       omega (arith, wrong)
 
-  -- the filter for 1000 items at one half has no position on
+  -- the filter for 1000 items at one half has no position set
   made-half_word : IsMadeFor half 1000 (filter (1 ∷ replicate 22 0) 1 7) → ⊥
   made-half_word made =
       let bits = size-half_only made.0 made.1 in
@@ -124,6 +124,6 @@ rate-high holds = omega (arith, holds.at_least)
 rate-low : HoldsRate (exactly 8867011522199551 (lit≤ tt)) (64 * 1) (2 * 1) 2 → ⊥
 rate-low holds = omega (arith, holds.at_most)
 
--- the bracket for two positions that were turned on doesn't hold the rate for one
+-- the bracket for two positions that were set doesn't hold the rate for one
 rate-one_position : HoldsRate (exactly 8867011522199552 (lit≤ tt)) (64 * 1) 1 2 → ⊥
 rate-one_position holds = omega (arith, holds.at_least)

@@ -22,7 +22,7 @@ rate-holds density rate b t k some is power =
       at_most = rw (← pow-pow b t k) held.at_most;
     }
 
--- the density is zero where nothing is turned on
+-- the density is zero where nothing is set
 none-on : (density : Bracket) (b : ℕ) → HoldsDensity density b 0 → density.low ≡ 0
 none-on density b is =
     let none : density.low * b ^ 0 ≤ 2 ^ 63 * (b ^ 0 - (b - 1) ^ 0) = is.at_least in

@@ -6,7 +6,7 @@ use Rattle.bloom_plain.specs.Filter.{Clears, Unites, Intersects}
 use Rattle.bloom_plain.proofs.CaseLemmas.{alike_below, content-case, content-past}
 use Rattle.bloom_plain.proofs.FilterFacts.{filter}
 
--- a clear turns every position of a word off
+-- a clear clears every position of a word
 pub clears : Clears (filter (5 ∷ []) 2 7) (filter (0 ∷ []) 2 7)
 unfolding content
 clears = record {
@@ -15,7 +15,7 @@ clears = record {
   hasher = refl;
 }
 
--- a clear leaves no position on
+-- a clear leaves no position set
 clears-less : Clears (filter (5 ∷ []) 2 7) (filter (4 ∷ []) 2 7) → ⊥
 unfolding content
 clears-less did = let wrong : true ≡ false = did.bits 2 in cc
@@ -51,22 +51,22 @@ pub unites : Unites (filter (5 ∷ []) 2 7) (filter (6 ∷ []) 2 8) (filter (7 �
 unfolding content
 unites = unites-words 5 6 7 7 8 refl
 
--- a union leaves no position of the other filter off
+-- a union leaves no position of the other filter clear
 unites-less : Unites (filter (5 ∷ []) 2 7) (filter (6 ∷ []) 2 8) (filter (5 ∷ []) 2 7) → ⊥
 unfolding content
 unites-less did = let wrong : false ≡ true = did.bits 1 in cc
 
--- an exclusive or, which turns off what is on in both, is no union
+-- an exclusive or, which clears what is set in both, is no union
 unites-exclusive : Unites (filter (5 ∷ []) 2 7) (filter (6 ∷ []) 2 8) (filter (3 ∷ []) 2 7) → ⊥
 unfolding content
 unites-exclusive did = let wrong : false ≡ true = did.bits 2 in cc
 
--- a union turns no position off that only the first filter has
+-- a union clears no position that only the first filter has
 unites-off : Unites (filter (5 ∷ []) 2 7) (filter (6 ∷ []) 2 8) (filter (6 ∷ []) 2 7) → ⊥
 unfolding content
 unites-off did = let wrong : false ≡ true = did.bits 0 in cc
 
--- a union turns no position on that neither filter has
+-- a union sets no position that neither filter has
 unites-more : Unites (filter (5 ∷ []) 2 7) (filter (6 ∷ []) 2 8) (filter (15 ∷ []) 2 7) → ⊥
 unfolding content
 unites-more did = let wrong : true ≡ false = did.bits 3 in cc
@@ -101,17 +101,17 @@ pub intersects : Intersects (filter (5 ∷ []) 2 7) (filter (6 ∷ []) 2 8) (fil
 unfolding content
 intersects = intersects-words 5 6 4 7 8 refl
 
--- an intersection leaves no position on that the other filter lacks
+-- an intersection leaves no position set that the other filter lacks
 intersects-more : Intersects (filter (5 ∷ []) 2 7) (filter (6 ∷ []) 2 8) (filter (5 ∷ []) 2 7) → ⊥
 unfolding content
 intersects-more did = let wrong : true ≡ false = did.bits 0 in cc
 
--- an intersection turns no position off that both filters have
+-- an intersection clears no position that both filters have
 intersects-less : Intersects (filter (5 ∷ []) 2 7) (filter (6 ∷ []) 2 8) (filter (0 ∷ []) 2 7) → ⊥
 unfolding content
 intersects-less did = let wrong : false ≡ true = did.bits 2 in cc
 
--- an intersection turns no position on that only the other filter has
+-- an intersection sets no position that only the other filter has
 intersects-other : Intersects (filter (5 ∷ []) 2 7) (filter (6 ∷ []) 2 8) (filter (6 ∷ []) 2 7) → ⊥
 unfolding content
 intersects-other did = let wrong : true ≡ false = did.bits 1 in cc

@@ -11,7 +11,7 @@ use Rattle.bloom_plain.specs.Filter.{Filter, SameShape, contains, Inserts, posit
 use Rattle.bloom_plain.specs.Replies.{InsertsAll, replies}
 use Rattle.bloom_plain.proofs.ReplyLemmas.{or-makes_on}
 
--- what is on only where a set is on adds nothing to it
+-- a part of a set adds nothing to it
 adds-nothing : (a b : Bool) → (b ≡ true → a ≡ true) → a ≡ (a || b)
 adds-nothing true b p = refl
 adds-nothing false true p = p refl

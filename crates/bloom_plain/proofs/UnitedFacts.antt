@@ -1,5 +1,5 @@
 -- Two lists of one insert each, united, at values from outside. Among 64 bits and with two hashes,
--- hash 1 has the positions 0 and 20, and hash 2 has 0 and 40. Position 3 is on at the start.
+-- hash 1 has the positions 0 and 20, and hash 2 has 0 and 40. Position 3 is set at the start.
 use Rattle.std.proofs.Common.{◌≡◌, ℕ, true, false, [], ◌∷◌, refl, lit<}
 use Rattle.bloom_parts.specs.Chain.{chain}
 use Rattle.bloom_parts.specs.Content.{content}
@@ -12,12 +12,12 @@ use Rattle.bloom_plain.proofs.LawFacts.{one_word}
 use Rattle.bloom_plain.proofs.ReplyLemmas.{carries_out-insert}
 use Rattle.bloom_plain.proofs.SetFacts.{unites-words}
 
--- hash 1 turns the positions 0 and 20 on
+-- hash 1 sets the positions 0 and 20
 inserts-one : Inserts (one_word 8) 1 (one_word 1048585) false
 unfolding content positions chain are_in
 inserts-one = inserts-word 8 1048585 2 1 false (lit< tt) refl refl
 
--- hash 2 turns the positions 0 and 40 on
+-- hash 2 sets the positions 0 and 40
 inserts-two : Inserts (one_word 8) 2 (one_word 1099511627785) false
 unfolding content positions chain are_in
 inserts-two = inserts-word 8 1099511627785 2 2 false (lit< tt) refl refl

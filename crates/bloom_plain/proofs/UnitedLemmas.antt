@@ -12,7 +12,7 @@ use Rattle.bloom_plain.specs.Replies.{replies}
 use Rattle.bloom_plain.proofs.FoundLemmas.{leaves_on, leaves_on-list, all_spare}
 use Rattle.bloom_parts.proofs.PublishedLemmas.{last_decision-append}
 
--- two decisions that turn nothing off make on what either does
+-- two decisions that clear nothing set what either does
 either-made : (d e : Option Bool) (was : Bool) → leaves_on d ≡ true → leaves_on e ≡ true
     → unwrap_or (option_or e d) was ≡ (unwrap_or d was || unwrap_or e was)
 unfolding leaves_on
@@ -23,13 +23,13 @@ either-made d (Some true) was p q = or_comm true (unwrap_or d was)
 either-made d (Some false) was p q = cc
 
 module _ (n k : ℕ) (A : ℕ → Bool) (p : ℕ) where
-  -- inserts turn nothing off
+  -- inserts clear nothing
   inserts-leave : (hashes : List ℕ)
       → leaves_on (last_decision (map (decides n k) (map Insert hashes)) p) ≡ true
   inserts-leave hashes =
       leaves_on-list n k (λ q. true) p refl (map Insert hashes) (all_spare (λ q. true) hashes)
 
-  -- two lists of inserts turn on what either does
+  -- two lists of inserts set what either does
   state-either : (hashes others : List ℕ)
       → state_after n k A (map Insert (hashes ++ others)) p
       ≡ (state_after n k A (map Insert hashes) p || state_after n k A (map Insert others) p)
@@ -42,7 +42,7 @@ module _ (n k : ℕ) (A : ℕ → Bool) (p : ℕ) where
       ∙ either-made (last_decision first p) (last_decision second p) (A p)
       (inserts-leave hashes) (inserts-leave others)
 
--- each position is on where either list turns it on
+-- each position is set where either list sets it
 pub united_inserts_law : (S : Type 0) → UnitedInsertsLaw S
 united_inserts_law S old one other new hashes others did also united =
     let n = num_bits_of old in

@@ -5,12 +5,8 @@ ghost use Rattle.bloom_parts.specs.Keys.{HasKey};
 ghost use Rattle.bloom_parts.specs.Sip.{sip};
 ghost use Rattle.bloom_parts.specs.declared.hasher.CloneBuildHasher.{CloneBuildHasher as Builder};
 ghost use Rattle.bloom_plain.specs.Data.{DataLaw, SameItemsLaw};
-ghost use Rattle.bloom_plain.specs.File.{FileLaw, SameFileItemsLaw};
-ghost use Rattle.bloom_plain.specs.FileRefusals.{ReadableLaw};
 ghost use Rattle.bloom_plain.specs.Filter.{Unites, Intersects};
-ghost use Rattle.bloom_plain.specs.GrowingLaws.{GrowingKeptLaw, GrowingFoundLaw, RatesBelowLaw};
 ghost use Rattle.bloom_plain.specs.Laws.{InsertLaw, KeptByInsertLaw, KeptByUnionLaw, KeptByListLaw, KeptByInsertsLaw, IntersectionLaw, UnionLaw, ClearLaw, IsCommutative, IsAssociative, IsIdempotent, RebuiltLaw, EqualityLaw, EqualContentLaw, EqualStartsLaw, EqualRateStartsLaw, JoinedListsLaw, UnitedInsertsLaw, FoundLaw, FoundAfterInsertsLaw, FoundAfterReplayLaw};
-ghost use Rattle.bloom_plain.specs.Rotating.{RecentFoundLaw};
 ghost use Rattle.bloom_plain.specs.SourceHash.{source_hash_of, IsFunctionOfBytes};
 
 use bloom_parts::hasher::{DefaultHasher, RandomDefaultHasher};
@@ -97,24 +93,6 @@ pub fn inserted_stays_found<S>()
     ensures replay { FoundAfterReplayLaw S }
 {}
 
-/// In a filter that grows, what is contained stays contained, and so does each hash that came.
-pub fn growing_inserted_stays_found<S>()
-    ensures kept { GrowingKeptLaw S }
-    ensures found { GrowingFoundLaw S }
-{}
-
-/// The rates that the filters of one that grows are sized for, however many they are, sum to less
-/// than the rate that was asked for.
-pub fn growing_rates_stay_below()
-    ensures { RatesBelowLaw }
-{}
-
-/// In a filter that rotates a hash that came is contained as long as fewer different ones came
-/// behind it than each of its filters is for.
-pub fn rotating_recent_stays_found<S>()
-    ensures { RecentFoundLaw S }
-{}
-
 /// Under the default hasher a source hash is SipHash-1-3 of the bytes that the item writes.
 pub fn source_hash_by_default<T: Hash>()
     // The default hasher is a function of the bytes written, as `source_hash` asks.
@@ -137,18 +115,6 @@ pub fn data_answer_alike<T: Hash>()
     // The left and right sides are what `source_hash` returns.
     ensures items { SameItemsLaw (source_hash_of ⟦<DefaultHasher as BuildHasher>⟧
         ⟦<RandomDefaultHasher as Hasher>⟧ T.hash_input) }
-{
-    source_hash_by_default::<T>();
-}
-
-/// A filter that is read from another's file has its words, number of hashes and key, and contains
-/// the same hashes and items. A file of a filter is never refused.
-pub fn file_reads_back<T: Hash>()
-    ensures filters { FileLaw }
-    // The left and right sides are what `source_hash` returns.
-    ensures items { SameFileItemsLaw (source_hash_of ⟦<DefaultHasher as BuildHasher>⟧
-        ⟦<RandomDefaultHasher as Hasher>⟧ T.hash_input) }
-    ensures readable { ReadableLaw }
 {
     source_hash_by_default::<T>();
 }

@@ -1,15 +1,10 @@
 //! The inputs: files, and standard input.
 
 use duplicates_engine::Inputs;
+use program_parts::first_output;
 use std::fs::File;
+use std::io;
 use std::io::{Read, StdinLock};
-use std::os::unix::fs::MetadataExt;
-use std::{fs, io};
-
-// Where Linux keeps what the standard streams are.
-const STANDARD_INPUT: &str = "/proc/self/fd/0";
-
-const STANDARD_OUTPUT: &str = "/proc/self/fd/1";
 
 /// An input that is open.
 #[derive(Drop)]
@@ -83,43 +78,7 @@ impl<'r, 'n, 's> Inputs for Files<'r, 'n, 's> {
     }
 }
 
-// The device of a file, and its number there. What isn't a regular file has none.
-fn file_at(rt: &HostRuntime, path: &str) -> Option<(u64, u64)> {
-    let found = fs::metadata(rt, path).ok()?;
-    if found.is_file() {
-        Some((found.dev(), found.ino()))
-    } else {
-        None
-    }
-}
-
-// Whether the input of this name is this file.
-fn is_file(rt: &HostRuntime, name: &str, file: (u64, u64)) -> bool {
-    let path = if name == "-" { STANDARD_INPUT } else { name };
-    match file_at(rt, path) {
-        Some(found) => found == file,
-        None => false,
-    }
-}
-
 /// The first name of an input that is the file that standard output is written to, if one is.
 pub fn name_of_output<'n, 's>(rt: &HostRuntime, names: Option<&'n [&'s str]>) -> Option<&'s str> {
-    let output = file_at(rt, STANDARD_OUTPUT)?;
-    match names {
-        Some(names) => {
-            'names: for name in names {
-                if is_file(rt, name, output) {
-                    return Some(*name);
-                }
-            }
-            None
-        }
-        None => {
-            if is_file(rt, "-", output) {
-                Some("-")
-            } else {
-                None
-            }
-        }
-    }
+    first_output(rt, names.unwrap_or(&["-"]))
 }

@@ -1,7 +1,8 @@
 //! How full a filter is, as a terminal is told.
 
 use bloom_blocked::BlockedBloomFilter;
-use bloom_plain::{BloomFilter, GrowingFilter, RotatingFilter};
+use bloom_growing::{GrowingFilter, RotatingFilter};
+use bloom_plain::BloomFilter;
 
 /// A filter that tells how full it is. Half of the bits are set where a filter is as full as it was
 /// made for.

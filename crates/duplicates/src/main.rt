@@ -1,4 +1,9 @@
 //! Prints each line of its input that is certainly new.
+//!
+//! - `command_line`: the arguments, by `clap`.
+//! - `files`: files and standard input, as the inputs of `duplicates_engine`.
+//! - `run`: a run over them.
+//! - `telling`, `gauge`: what standard error is told, the statuses, and how full a filter is.
 #![tactic(auto)]
 
 mod command_line;
@@ -20,7 +25,7 @@ fn print(rt: &HostRuntime, error: &Error) -> u8 {
     }
     match printed {
         Ok(()) => DONE,
-        Err(error) => tell_unwritten(rt, error.kind()),
+        Err(error) => tell_unwritten(rt, None, error.kind()),
     }
 }
 
@@ -32,11 +37,11 @@ fn refuse(rt: &HostRuntime, text: &str) -> u8 {
 // What words that were read ask for is done; the status.
 fn serve_matched(rt: &HostRuntime, matches: &ArgMatches) -> u8 {
     match request_of(matches) {
-        Some(request) => match run::run(rt, &request) {
+        Ok(request) => match run::run(rt, &request) {
             Ok(status) => status,
             Err(text) => refuse(rt, text),
         },
-        None => refuse(rt, "the rate is a fraction between 0 and 1, as 1/1000"),
+        Err(text) => refuse(rt, text),
     }
 }
 

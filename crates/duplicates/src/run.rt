@@ -7,10 +7,13 @@ use crate::telling::{
     DONE, OVERFULL, Teller, tell_fault, tell_no_room, tell_output, tell_unwritten,
 };
 use bloom_blocked::BlockedBloomFilter;
-use bloom_plain::{BloomFilter, FilterError, GrowingError, GrowingFilter, RotatingFilter};
+use bloom_growing::{GrowingError, GrowingFilter, RotatingFilter};
+use bloom_plain::{BloomFilter, FilterError};
 use duplicates_engine::{Fault, Options, Sieve, Total, Written, keep_new};
+use program_parts::{Output, Writer, close, open_output};
+use std::fs::File;
 use std::io;
-use std::io::{BufWriter, IsTerminal};
+use std::io::{BufWriter, IsTerminal, Write};
 
 // What the engine is to do.
 fn options_of(request: &Request) -> Options {
@@ -33,15 +36,16 @@ fn options_of(request: &Request) -> Options {
 }
 
 // Keeps the lines of the inputs.
-fn keep<V: Sieve>(
+fn keep<V: Sieve, W: Write + Drop>(
     rt: &HostRuntime,
     request: &Request,
     sieve: &mut V,
     files: &mut Files,
+    output: &mut W,
     teller: &mut Teller,
 ) -> Result<Total, Fault> {
     let options = options_of(request);
-    let Ok(mut output) = BufWriter::new(rt.alloc(), std::io::writer(rt)) else {
+    let Ok(mut output) = BufWriter::new(rt.alloc(), output) else {
         return Err(Fault::Memory);
     };
     if request.zero {
@@ -51,24 +55,29 @@ fn keep<V: Sieve>(
     }
 }
 
-// Prints the counts, as they are asked for.
-fn print_counts(rt: &HostRuntime, request: &Request, total: Total, held: u64) -> io::Result<()> {
+// Writes the counts, as they are asked for.
+fn write_counts<W: Write>(
+    request: &Request,
+    total: Total,
+    held: u64,
+    output: &mut W,
+) -> io::Result<()> {
     let read = total.tally.read;
     if request.skips_longer {
-        println!(rt; "{read} {held} {}", total.longer)
+        writeln!(output, "{read} {held} {}", total.longer)
     } else {
-        println!(rt; "{read} {held}")
+        writeln!(output, "{read} {held}")
     }
 }
 
 // Tells the counts of a run that ended well, and gives the status.
-fn sum_up(rt: &HostRuntime, request: &Request, total: Total) -> u8 {
+fn sum_up<W: Write>(rt: &HostRuntime, request: &Request, total: Total, output: &mut W) -> u8 {
     let read = total.tally.read;
     let held = total.tally.held.saturating_sub(total.longer);
     if request.count {
-        return match print_counts(rt, request, total, held) {
+        return match write_counts(request, total, held, output) {
             Ok(()) => DONE,
-            Err(error) => tell_unwritten(rt, error.kind()),
+            Err(error) => tell_unwritten(rt, request.output, error.kind()),
         };
     }
     if !request.quiet {
@@ -83,7 +92,12 @@ fn sum_up(rt: &HostRuntime, request: &Request, total: Total) -> u8 {
 }
 
 // Sifts the inputs, and gives the status.
-fn sift<V: Sieve + Gauge>(rt: &HostRuntime, request: &Request, sieve: &mut V) -> u8 {
+fn sift<V: Sieve + Gauge, W: Write + Drop>(
+    rt: &HostRuntime,
+    request: &Request,
+    sieve: &mut V,
+    output: &mut W,
+) -> u8 {
     let is_named = request.names.is_some();
     let mut files = Files::new(rt, request.names);
     let mut teller = Teller {
@@ -97,9 +111,9 @@ fn sift<V: Sieve + Gauge>(rt: &HostRuntime, request: &Request, sieve: &mut V) ->
         items: request.items,
         is_warned: false,
     };
-    match keep(rt, request, sieve, &mut files, &mut teller) {
+    match keep(rt, request, sieve, &mut files, output, &mut teller) {
         Ok(total) => {
-            let status = sum_up(rt, request, total);
+            let status = sum_up(rt, request, total, output);
             if teller.is_on {
                 sieve.tell_full(rt);
             }
@@ -109,7 +123,67 @@ fn sift<V: Sieve + Gauge>(rt: &HostRuntime, request: &Request, sieve: &mut V) ->
                 status
             }
         }
+        Err(Fault::Output(kind)) => tell_unwritten(rt, request.output, kind),
         Err(fault) => tell_fault(rt, files.current(), is_named, request.longest, fault),
+    }
+}
+
+// Sifts the inputs by the filter that is asked for, and gives the status.
+fn sift_by_filter<W: Write + Drop>(
+    rt: &HostRuntime,
+    request: &Request,
+    output: &mut W,
+) -> Result<u8, &'static str> {
+    let (alloc, rate, seed) = (rt.alloc(), request.rate, &request.seed);
+    let items = request.items as usize;
+    let refusal = if let Some(last) = request.last {
+        match RotatingFilter::seeded(alloc, rate, last as usize, seed) {
+            Ok(mut filter) => return Ok(sift(rt, request, &mut filter, output)),
+            Err(refusal) => refusal,
+        }
+    } else if request.blocked {
+        let builder = BlockedBloomFilter::with_false_pos(rate).seed(seed);
+        match builder.expected_items(alloc, items) {
+            Ok(mut filter) => return Ok(sift(rt, request, &mut filter, output)),
+            Err(refusal) => GrowingError::Filter(refusal),
+        }
+    } else if request.fixed {
+        let builder = BloomFilter::with_false_pos(rate).seed(seed);
+        match builder.expected_items(alloc, items) {
+            Ok(mut filter) => return Ok(sift(rt, request, &mut filter, output)),
+            Err(refusal) => GrowingError::Filter(refusal),
+        }
+    } else {
+        match GrowingFilter::seeded(alloc, rate, items, seed) {
+            Ok(mut filter) => return Ok(sift(rt, request, &mut filter, output)),
+            Err(refusal) => refusal,
+        }
+    };
+    match refusal {
+        GrowingError::Filter(FilterError::Memory) => Ok(tell_no_room(rt, "out of memory")),
+        _ => Err("there is no filter for this many lines at this rate"),
+    }
+}
+
+// Whether a run of this status ended well.
+fn is_whole(ended: &Result<u8, &'static str>) -> bool {
+    match ended {
+        Ok(status) => *status == DONE || *status == OVERFULL,
+        Err(_) => false,
+    }
+}
+
+// Runs over the inputs, with an output that is open, and gives the status.
+fn run_into(
+    rt: &HostRuntime,
+    request: &Request,
+    output: Output<Writer<'_, HostRuntime, File>>,
+) -> Result<u8, &'static str> {
+    let mut output = output;
+    let ended = sift_by_filter(rt, request, &mut output.writer);
+    match close(rt, output, is_whole(&ended)) {
+        Ok(()) => ended,
+        Err(error) => Ok(tell_unwritten(rt, request.output, error.kind())),
     }
 }
 
@@ -118,33 +192,13 @@ fn sift<V: Sieve + Gauge>(rt: &HostRuntime, request: &Request, sieve: &mut V) ->
 /// # Errors
 /// Why there is no filter for this many lines at this rate.
 pub fn run(rt: &HostRuntime, request: &Request) -> Result<u8, &'static str> {
-    if let Some(name) = name_of_output(rt, request.names) {
-        return Ok(tell_output(rt, name));
+    if request.output.unwrap_or("-") == "-" {
+        if let Some(name) = name_of_output(rt, request.names) {
+            return Ok(tell_output(rt, name));
+        }
     }
-    let items = request.items as usize;
-    let refusal = if let Some(last) = request.last {
-        match RotatingFilter::new(rt.alloc(), request.rate, last as usize) {
-            Ok(mut filter) => return Ok(sift(rt, request, &mut filter)),
-            Err(refusal) => refusal,
-        }
-    } else if request.blocked {
-        match BlockedBloomFilter::with_false_pos(request.rate).expected_items(rt.alloc(), items) {
-            Ok(mut filter) => return Ok(sift(rt, request, &mut filter)),
-            Err(refusal) => GrowingError::Filter(refusal),
-        }
-    } else if request.fixed {
-        match BloomFilter::with_false_pos(request.rate).expected_items(rt.alloc(), items) {
-            Ok(mut filter) => return Ok(sift(rt, request, &mut filter)),
-            Err(refusal) => GrowingError::Filter(refusal),
-        }
-    } else {
-        match GrowingFilter::new(rt.alloc(), request.rate, items) {
-            Ok(mut filter) => return Ok(sift(rt, request, &mut filter)),
-            Err(refusal) => refusal,
-        }
-    };
-    match refusal {
-        GrowingError::Filter(FilterError::Memory) => Ok(tell_no_room(rt, "out of memory")),
-        _ => Err("there is no filter for this many lines at this rate"),
+    match open_output(rt, request.output) {
+        Ok(output) => run_into(rt, request, output),
+        Err(error) => Ok(tell_unwritten(rt, request.output, error.kind())),
     }
 }

@@ -101,12 +101,14 @@ pub fn tell_output(rt: &HostRuntime, name: &str) -> u8 {
     BAD
 }
 
-/// Tells that standard output can't be written, and returns the status.
-pub fn tell_unwritten(rt: &HostRuntime, kind: ErrorKind) -> u8 {
-    let _ = eprintln!(rt;
-        "duplicates: standard output can't be written{}",
-        Because(kind)
-    );
+/// Tells that the output can't be written, and returns the status. It is standard output where it
+/// has no name.
+pub fn tell_unwritten(rt: &HostRuntime, name: Option<&str>, kind: ErrorKind) -> u8 {
+    let name = match name.unwrap_or("-") {
+        "-" => "standard output",
+        name => name,
+    };
+    let _ = eprintln!(rt; "duplicates: {name} can't be written{}", Because(kind));
     FAILED
 }
 
@@ -133,7 +135,7 @@ pub fn tell_fault(
             let _ = eprintln!(rt; "duplicates: {place} can't be read{}", Because(kind));
             FAILED
         }
-        Fault::Output(kind) => tell_unwritten(rt, kind),
+        Fault::Output(kind) => tell_unwritten(rt, None, kind),
         Fault::Memory => tell_no_room(rt, "out of memory"),
         Fault::Full => tell_no_room(rt, "the filter can't grow any more at this rate"),
     }

@@ -6,8 +6,8 @@ use Rattle.std.specs.declared.io.ErrorKind.TheVariants as kind
 use Rattle.lines.specs.Lines.{lines_by}
 use Rattle.lines.specs.Reading.{Ends}
 use Rattle.bloom_parts.specs.declared.error.FilterError.TheVariants as filter
-use Rattle.bloom_plain.specs.declared.growing.error.GrowingError.{GrowingError}
-use Rattle.bloom_plain.specs.declared.growing.error.GrowingError.TheVariants.{RateOverflow, Filter}
+use Rattle.bloom_growing.specs.declared.growing.error.GrowingError.{GrowingError}
+use Rattle.bloom_growing.specs.declared.growing.error.GrowingError.TheVariants.{RateOverflow, Filter}
 use Rattle.duplicates_engine.specs.declared.fault.Fault.{Fault}
 use Rattle.duplicates_engine.specs.declared.fault.Fault.TheVariants.{TooLong, Memory, Full, Open, Input, Output}
 use Rattle.duplicates_engine.specs.Causes.{TellsRead, TellsOpen, TellsWrite, TellsRefusal, RefusesLine, FailsToOpen, FailsBehind, IsOfStep, AreOfFirst, IsCaused}

@@ -5,7 +5,7 @@ use Rattle.std.specs.Io.KnownBytes.{Keeps}
 use Rattle.std.proofs.KnownBytes.{Appends-kept}
 use Rattle.lines.proofs.WritingLemmas.{Begins-whole}
 use Rattle.std.specs.declared.io.ErrorKind.{ErrorKind}
-use Rattle.bloom_plain.specs.declared.growing.error.GrowingError.{GrowingError}
+use Rattle.bloom_growing.specs.declared.growing.error.GrowingError.{GrowingError}
 use Rattle.duplicates_engine.specs.declared.fault.Fault.{Fault}
 use Rattle.duplicates_engine.specs.declared.fault.Fault.TheVariants.{TooLong, Memory, Full, Open, Input, Output}
 use Rattle.duplicates_engine.specs.declared.options.Options.{Options}

@@ -2,7 +2,7 @@
 use Rattle.std.proofs.Common.{◌≡◌, ◌+◌, true, false, [], ◌∷◌, refl, ◌∙◌, ap, subst, arith}
 use Rattle.std.specs.Prelude.{codes}
 use Rattle.std.specs.declared.hash.Hasher as hasher
-use Rattle.bloom_plain.specs.Rotating.{Rotating, either_contains, Receives}
+use Rattle.bloom_growing.specs.Rotating.{Rotating, either_contains, Receives}
 use Rattle.duplicates_engine.specs.Plain.{line_hash}
 use Rattle.duplicates_engine.specs.Rotating.{rotating_recalls, rotating_receives}
 

@@ -6,7 +6,7 @@ use Rattle.std.proofs.lemmas.Slice.Eq.{bytes_eq-Decides}
 use Rattle.std.specs.Cmp.{unsigned_Decides}
 use Rattle.std.specs.Set.{distinct_count, unique_keys, is_member}
 use Rattle.std.specs.Str.{bytes_eq}
-use Rattle.bloom_plain.specs.Rotating.{Rotating, either_contains, Receives, ReceivesAll, RecentFoundLaw}
+use Rattle.bloom_growing.specs.Rotating.{Rotating, either_contains, Receives, ReceivesAll, RecentFoundLaw}
 use Rattle.duplicates_engine.specs.Sieves.{IsNew}
 
 module _ (hash_of : List ℕ → ℕ) where

@@ -4,7 +4,7 @@ use Rattle.std.proofs.lemmas.List.Elements.{All-nil}
 use Rattle.std.specs.Prelude.{codes}
 use Rattle.lines.specs.Lines.{lines_by}
 use Rattle.lines.specs.Reading.{AreShort}
-use Rattle.bloom_plain.specs.declared.growing.error.GrowingError.{GrowingError}
+use Rattle.bloom_growing.specs.declared.growing.error.GrowingError.{GrowingError}
 use Rattle.std.specs.declared.io.ErrorKind.{ErrorKind}
 use Rattle.duplicates_engine.specs.declared.fault.Fault.TheVariants.{Full, Memory}
 use Rattle.duplicates_engine.specs.declared.options.Options.{Options}

@@ -4,8 +4,8 @@ use Rattle.std.specs.Prelude.{◌≡◌, ◌≢◌, ◌≤◌, ℕ, List, [], �
 use Rattle.std.specs.declared.io.ErrorKind.{ErrorKind}
 use Rattle.std.specs.declared.io.ErrorKind.TheVariants.{OutOfMemory}
 use Rattle.bloom_parts.specs.declared.error.FilterError.TheVariants as filter
-use Rattle.bloom_plain.specs.declared.growing.error.GrowingError.{GrowingError}
-use Rattle.bloom_plain.specs.declared.growing.error.GrowingError.TheVariants.{Filter}
+use Rattle.bloom_growing.specs.declared.growing.error.GrowingError.{GrowingError}
+use Rattle.bloom_growing.specs.declared.growing.error.GrowingError.TheVariants.{Filter}
 use Rattle.duplicates_engine.specs.declared.fault.Fault.{Fault}
 use Rattle.duplicates_engine.specs.declared.fault.Fault.TheVariants.{TooLong, Memory, Full, Open, Input, Output}
 use Rattle.duplicates_engine.specs.Inputs.{lines_in, AreFirstRead}

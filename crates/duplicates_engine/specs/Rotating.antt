@@ -1,7 +1,7 @@
 -- A filter that rotates as a sieve of lines.
 use Rattle.std.specs.Prelude.{ℕ, Bool, List, map}
 use Rattle.std.specs.declared.hash.Hasher as hasher
-use Rattle.bloom_plain.specs.Rotating.{Rotating, Receives, ReceivesAll}
+use Rattle.bloom_growing.specs.Rotating.{Rotating, Receives, ReceivesAll}
 use Rattle.duplicates_engine.specs.Plain.{line_hash}
 
 module _ {S H : Type 0} (h : hasher.Ghosts H) (build : S → H) where

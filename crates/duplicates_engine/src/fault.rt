@@ -2,7 +2,8 @@
 ghost use Rattle.std.specs.IoError.{error_kind};
 ghost use Rattle.duplicates_engine.specs.Causes.{TellsOpen, TellsRead, TellsRefusal, TellsWrite};
 
-use bloom_plain::{FilterError, GrowingError};
+use bloom_growing::GrowingError;
+use bloom_plain::FilterError;
 use std::io;
 use std::io::ErrorKind;
 use thiserror::Error;

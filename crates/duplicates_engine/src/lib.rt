@@ -1,4 +1,13 @@
 //! Writes each line of its inputs that is certainly new, by a sieve of those before it.
+//!
+//! - `keep`: `keep_new`, over any sieve, inputs and writer.
+//! - `sieve`: what tells of a line whether it may have come before: a filter that is plain
+//!   (`plain`), blocked (`blocked`), growing (`growing`) or rotating (`rotating`).
+//! - `options`, `output`: what a run is to do, and how it writes lines.
+//! - `inputs`, `opened`: inputs, one after the other, and the one that is open.
+//! - `tally`, `counted`, `progress`: counts of lines, and who is told of them and warned.
+//! - `fault`: why a run ends early.
+//! - `laws`: the laws of sieves.
 #![tactic(auto)]
 
 mod blocked;

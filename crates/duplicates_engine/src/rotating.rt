@@ -3,8 +3,9 @@ ghost use Rattle.std.specs.Prelude.{Some, refl};
 ghost use Rattle.duplicates_engine.specs.Rotating.{rotating_recalls, rotating_receives};
 
 use crate::sieve::Sieve;
-use bloom_plain::laws::rotating_recent_stays_found;
-use bloom_plain::{DefaultHasher, GrowingError, RandomDefaultHasher, RotatingFilter, Text};
+use bloom_growing::laws::rotating_recent_stays_found;
+use bloom_growing::{GrowingError, RotatingFilter};
+use bloom_plain::{DefaultHasher, RandomDefaultHasher, Text};
 use std::alloc::Global;
 use std::hash::{BuildHasher, Hasher};
 

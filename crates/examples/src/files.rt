@@ -1,7 +1,7 @@
 //! A filter in a file.
 
 use anyhow::Context;
-use fastbloom::BloomFilter;
+use fastbloom::{BloomFilter, FilterFile};
 use std::fs;
 use std::rt::Files;
 

@@ -1,4 +1,4 @@
-//! Three kinds of filter, as README shows them.
+//! Three kinds of filter, as README and docs/CALLING.md show them.
 
 use fastbloom::{AtomicBloomFilter, BloomFilter, FilterError, Rate, SeatedBloomFilter};
 use std::alloc::Global;

@@ -11,13 +11,13 @@ use Rattle.fastbloom.proofs.SharedFacts.{insert-turns-on-each}
 use Rattle.fastbloom.proofs.ScriptLemmas.{member}
 use Rattle.bloom_steps.proofs.LiveLemmas.{last-of, made-at}
 
--- one step of an insert turned on this place, and found it on or off
+-- one step of an insert set this place, and found it set or clear
 abbrev TurnsOn : {S : Type 0} → SharedFilter S → ℕ → Bool → Type 0
 TurnsOn f p was = (found : ℕ) × FoundByOr f.words (p / 64) (2 ^ (p % 64)) found
     × (bit_is_on found p ≡ was)
 
 module _ {S : Type 0} (f : SharedFilter S) (hash : ℕ) where
-  -- a reply is false exactly if some step found its place off
+  -- a reply is false exactly if some step found its place clear
   reply-false : (reply : Bool) → 1 ≤ f.hashes → (calls : MakesInsert f hash reply)
       → (reply ≡ false) ↔ Any calls.taken
       (λ i t. bit_is_on t.found (place (64 * f.words.count) hash i) ≡ false)
@@ -28,7 +28,7 @@ module _ {S : Type 0} (f : SharedFilter S) (hash : ℕ) where
       same_Some reply end.0 (calls.answers ∙ last.answers ∙ ap answer_of_end end.1) in
       (λ is. end.2.0 (sym same ∙ is), λ any. same ∙ end.2.1 any)
 
-  -- an insert that replies false turned on a place of its hash that it found off
+  -- an insert that replies false set a place of its hash that it found clear
   insert-false : 1 ≤ f.hashes → MakesInsert f hash false
       → (i : ℕ) × (i < f.hashes) × TurnsOn f (place (64 * f.words.count) hash i) false
   insert-false some calls =
@@ -47,7 +47,7 @@ module _ {S : Type 0} (f : SharedFilter S) (hash : ℕ) where
         ),
       )
 
-  -- an insert that replies true found each place of its hash on
+  -- an insert that replies true found each place of its hash set
   insert-true : MakesInsert f hash true → (i : ℕ) → i < f.hashes
       → TurnsOn f (place (64 * f.words.count) hash i) true
   insert-true calls i within =
@@ -69,7 +69,7 @@ module _ {S : Type 0} (f : SharedFilter S) (hash : ℕ) where
       otherwise true never = refl
       otherwise false never = absurd (never refl)
 
-  -- each place of a hash that was inserted was turned on
+  -- each place of a hash that was inserted was set
   was-inserted : (first last : ℕ) → WasInserted f.words f.hashes hash first last → (i : ℕ)
       → i < f.hashes
       → let p = place (64 * f.words.count) hash i in

@@ -66,7 +66,7 @@ filled = record {
       ∙ ap (λ b. b || false) one);
 }
 
--- a filter in which a position of its hash is off isn't filled with that hash
+-- a filter in which a position of its hash is clear isn't filled with that hash
 filled-less : IsFilledWith shape (1 ∷ []) (filter (1048577 ∷ []) 3) → ⊥
 unfolding content positions chain
 filled-less did = let wrong : false ≡ true = did.bits 32 in cc

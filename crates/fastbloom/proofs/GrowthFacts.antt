@@ -11,9 +11,9 @@ use Rattle.bloom_parts.specs.Sizing.{IsHalvings, size_for}
 use Rattle.bloom_parts.specs.declared.math.rate.Rate.{Rate}
 use Rattle.bloom_plain.specs.Builders.{empty_start, sized_filter}
 use Rattle.bloom_plain.specs.Filter.{Filter}
-use Rattle.bloom_plain.specs.Growing.{Growing, IsNumber, Plan, has, newest_room, plan_of, rate_start}
-use Rattle.bloom_plain.specs.GrowingInserts.{IsBegun}
-use Rattle.bloom_plain.specs.GrowingLaws.{GrowingFoundLaw, GrowingKeptLaw, RatesBelowLaw, TakesAll}
+use Rattle.bloom_growing.specs.Growing.{Growing, IsNumber, Plan, has, newest_room, plan_of, rate_start}
+use Rattle.bloom_growing.specs.GrowingInserts.{IsBegun}
+use Rattle.bloom_growing.specs.GrowingLaws.{GrowingFoundLaw, GrowingKeptLaw, RatesBelowLaw, TakesAll}
 
 -- the rate of four, or of this part of it
 abbrev rate_of : (den : ℕ) → 0 < den → Rate

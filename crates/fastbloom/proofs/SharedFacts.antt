@@ -67,7 +67,7 @@ only P t holds (suc i) u got = absurd (none-some u got)
 abbrev one_or : ℕ → Bool → List Taken
 one_or found reply = record { step = Or 0 1; found = found; ended = Answer reply } ∷ []
 
--- an insert whose one step found its bit off replies false
+-- an insert whose one step found its bit clear replies false
 insert-of-new : (name turn next : ℕ) → InTurn (FoundByOr (filter name 1 1).words 0 1 0) turn next
     → MakesInsert (filter name 1 1) 0 false
 unfolding chain
@@ -99,7 +99,7 @@ clear-is-silent : (name : ℕ) (reply : Bool)
 clear-is-silent name reply calls =
     none-some reply (sym (calls.answers ∙ silent calls.taken calls.script.last))
 
--- by an insert each position of its hash was turned on, in the filter's own words
+-- by an insert each position of its hash was set, in the filter's own words
 pub insert-turns-on-each : {S : Type 0} (f : SharedFilter S) (hash : ℕ) (reply : Bool)
     → MakesInsert f hash reply → (i : ℕ) → i < f.hashes
     → let p = place (64 * f.words.count) hash i in
@@ -124,7 +124,7 @@ clear-zeroes-each f calls i within =
     (subst (λ step. IsMade f.words f.words made.0 step at.0.found made.1)
     (calls.script.steps i at.0 at.1) made.2).0
 
--- by a union each word of the other was loaded, and what was found was turned on here
+-- by a union each word of the other was loaded, and what was found was set here
 union-loads-the-other : {S : Type 0} (f other : SharedFilter S) → MakesCall f other Union None
     → (i : ℕ) → i < f.words.count
     → (x : ℕ) × (found : ℕ) × FoundByLoad other.words i x × FoundByOr f.words i x found

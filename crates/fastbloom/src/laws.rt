@@ -7,11 +7,15 @@ pub use crate::seated::laws::{
     inserted_stays_known, met_is_found, passes_are_few, steps_of_words, sure_is_found,
 };
 pub use bloom_blocked::laws::interleavings_in_lines;
+pub use bloom_files::laws::file_reads_back;
+pub use bloom_growing::laws::{
+    growing_inserted_stays_found, growing_rates_stay_below, rotating_recent_stays_found,
+};
 pub use bloom_plain::laws::{
     clear_contains_nothing, contained_stays, data_answer_alike, equality_of_builders,
-    equality_of_filters, file_reads_back, insert_answers_contains, inserted_stays_found,
-    intersection_contains, intersection_of_contents, lists_join, rebuilt_answers_alike,
-    source_hash_by_default, union_contains, union_of_contents, union_of_inserts,
+    equality_of_filters, insert_answers_contains, inserted_stays_found, intersection_contains,
+    intersection_of_contents, lists_join, rebuilt_answers_alike, source_hash_by_default,
+    union_contains, union_of_contents, union_of_inserts,
 };
 pub use bloom_steps::laws::{at_most_one_course, steps_in_memory};
 

@@ -1,7 +1,19 @@
 //! Bloom filters: sets with no false negatives and a chosen rate of false positives.
+//!
+//! It exports what a user needs of the crates below, and has the filters that threads share:
+//!
+//! - `atomic`: `AtomicBloomFilter`, with its items, sets, words (`words`), data and rates.
+//! - `builder`: its builders, over the plain ones.
+//! - `parallel`: `fill`, by which workers fill one filter: its shape (`shape`), the gate that each
+//!   passes (`gate`), the work of one (`job`) and of all (`crew`).
+//! - `seated`: `SeatedBloomFilter`, whose words lie in a table of `atomic_table`: its calls
+//!   (`filter`), its rule (`rule`), the steps of passes (`steps`) and their loops (`looks`), how it
+//!   begins (`opening`, `passes`), how passes meet (`meetings`), and how it ends (`closing`).
+//! - `laws`: the laws of all these, but for those of blocked filters (`blocked_laws`).
 #![tactic(auto)]
 
 mod atomic;
+pub mod blocked_laws;
 mod builder;
 pub mod laws;
 mod parallel;
@@ -10,22 +22,22 @@ mod seated;
 pub use atomic::AtomicBloomFilter;
 pub use bloom_blocked::{
     AtomicBlockedBloomFilter, BlockedBloomFilter, BlockedBuilderWithBits,
-    BlockedBuilderWithFalsePositiveRate, BlockedFilterData, LinesError, laws as blocked_laws,
+    BlockedBuilderWithFalsePositiveRate, BlockedFilterData, LinesError,
 };
+pub use bloom_files as file;
+pub use bloom_files::{FileError, FilterFile};
+pub use bloom_growing::{GrowingError, GrowingFilter, RotatingFilter};
 pub use bloom_parts::bit_vector::{AtomicWords, Words};
 pub use bloom_parts::error::FilterError;
 pub use bloom_parts::hasher::{CloneBuildHasher, DefaultHasher, RandomDefaultHasher};
 pub use bloom_parts::math::{
-    Bracket, Estimate, Rate, estimated_common, estimated_items, estimated_part, expected_density,
-    expected_false_pos, false_pos_bounds, false_pos_of_either, false_pos_of_ones, optimal_hashes,
-    optimal_size,
+    Bracket, Estimate, Rate, capacity, estimated_common, estimated_items, estimated_part,
+    expected_density, expected_false_pos, false_pos_bounds, false_pos_of_either, false_pos_of_ones,
+    optimal_hashes, optimal_size,
 };
 pub use bloom_parts::text::Text;
 pub use bloom_plain::builder::{BuilderWithBits, BuilderWithFalsePositiveRate};
-pub use bloom_plain::file::FileError;
-pub use bloom_plain::{
-    BitsData, BloomFilter, Command, FilterData, GrowingError, GrowingFilter, RotatingFilter, file,
-};
+pub use bloom_plain::{BitsData, BloomFilter, Command, FilterData};
 pub use bloom_steps::{
     Call, End, Event, Machine, MemoryStore, Record, Step, Trace, WordStore, drive, run,
 };

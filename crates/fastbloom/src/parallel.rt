@@ -47,5 +47,5 @@ pub fn fill<R: Threads, G: Gate + Send + Sync + Drop + 'static>(
         (error ≡ FilterError.Memory) ⊎ (error ≡ FilterError.Worker)) }
 {
     let crew = prepare(alloc, &gate, shape, parts)?;
-    set_to_work(rt, crew)
+    Ok(set_to_work(rt, crew)?)
 }

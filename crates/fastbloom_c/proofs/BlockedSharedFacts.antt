@@ -3,7 +3,7 @@
 use Rattle.std.proofs.Common.{◌^◌, [], ◌∷◌, true, arith, lit<, lit≤, ℕ, subst, sym}
 use Rattle.bloom_parts.specs.Made.{SharedWords}
 use Rattle.fastbloom_c.specs.BlockedShared.{SetsInLines, TellsLooksInLines, TellsSetsInLines}
-use Rattle.bloom_blocked.specs.LineSteps.{LooksInLine, SetsInLine, WasSetInLine}
+use Rattle.bloom_blocked.specs.LineSteps.{LooksInLine, SetsInTurn, WasSetInLine}
 use Rattle.bloom_parts.specs.Content.{content}
 use Rattle.fastbloom_c.specs.Passed.{MakeLines}
 
@@ -34,8 +34,9 @@ looks-second : (v : SharedWords) → TellsLooksInLines v 1 (5 ∷ 6 ∷ []) (2 �
 unfolding content
 looks-second v told = told.each 1 (omega arith)
 
--- a bit that is clear tells that the insert found all positions set
-sets-second : (v : SharedWords) → TellsSetsInLines v 1 (5 ∷ 6 ∷ []) (1 ∷ [])
-    → SetsInLine v 1 6 true
+-- a bit that is clear tells that the insert found all positions set; it began at the turn to which
+-- the one before led
+sets-second : (v : SharedWords) (told : TellsSetsInLines v 1 (5 ∷ 6 ∷ []) (1 ∷ []))
+    → SetsInTurn v 1 6 true (told.turns 1) (told.turns 2)
 unfolding content
 sets-second v told = told.each 1 (omega arith)

@@ -1,6 +1,6 @@
 -- The heads that C gives, and the numbers of their refusals, at values from outside.
 use Rattle.std.proofs.Common.{◌≡◌, ◌^◌, ◌+◌, ◌-◌, ℕ, List, [], ◌∷◌, ◌++◌, replicate, Some, None, refl}
-use Rattle.bloom_plain.specs.declared.file.error.FileError.TheVariants.{NotAFilter, EmptyWords, TooManyWords, Reserved, NotBlocked, PartOfALine}
+use Rattle.bloom_files.specs.declared.error.FileError.TheVariants.{NotAFilter, EmptyWords, TooManyWords, Reserved, NotBlocked, PartOfALine}
 use Rattle.fastbloom_c.specs.Files.{head_for, line_words_refusal, words_refusal, file_code_or_zero}
 
 -- where nothing is refused the number is 0

@@ -6,6 +6,7 @@ mod Fields
 mod FileFacts
 mod ItemFacts
 mod ItemLemmas
+mod LineAloneLemmas
 mod NoWordLemmas
 mod PieceFacts
 mod PlanFacts

@@ -1,5 +1,5 @@
 -- Two bounds of a rate: bounds that hold, and bounds that differ from these in one thing and don't
--- hold. After one position of 64 was turned on, one hash errs once in 64 times.
+-- hold. After one position of 64 was set, one hash errs once in 64 times.
 use Rattle.std.proofs.Common.{lit≤, arith}
 use Rattle.fastbloom_c.specs.Rates.{HoldRate}
 

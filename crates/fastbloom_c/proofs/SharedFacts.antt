@@ -1,13 +1,14 @@
 -- What calls on words that threads share tell: cases that hold, and cases that differ from one of
 -- these in one thing and don't hold.
-use Rattle.std.proofs.Common.{◌≡◌, ◌^◌, ◌*◌, ◌==◌, ℕ, Bool, true, false, [], ◌∷◌, refl, sym, ap, arith, lit<, subst}
+use Rattle.std.proofs.Common.{◌≡◌, ◌^◌, ◌+◌, ◌*◌, ◌==◌, ℕ, Bool, true, false, Some, [], ◌∷◌, refl, sym, ap, arith, lit<, subst}
 use Rattle.std.proofs.lemmas.Bool.{both_ways}
 use denote.RawPtr.{block_ptr}
 use Rattle.bloom_parts.specs.Content.{content}
 use Rattle.bloom_parts.specs.Made.{SharedWords}
 use Rattle.bloom_parts.proofs.PublishedLemmas.{content-zeros}
-use Rattle.bloom_steps.specs.LiveSteps.{WasInserted}
-use Rattle.fastbloom_c.specs.Shared.{MakesInsert, MakesInserts, MakesLook, TellsEach, TellsInserts, TellsLooks}
+use Rattle.bloom_steps.specs.declared.steps.vocabulary.Call.TheVariants.{Insert}
+use Rattle.bloom_steps.specs.LiveSteps.{MakesCallInTurn, WasInserted}
+use Rattle.fastbloom_c.specs.Shared.{MakesInserts, MakesLook, TellsEach, TellsInTurn, TellsInserts, TellsLooks}
 use Rattle.fastbloom_c.specs.Passed.{MakeFilter, vector_of}
 
 -- one word makes a filter, and so does the greatest number
@@ -85,9 +86,30 @@ looks-rest : (v : SharedWords) → TellsLooks v 1 (5 ∷ []) (2 ∷ []) → ⊥
 unfolding content
 looks-rest v told = both_ways false refl (sym (told.rest 1 (omega arith)))
 
--- a bit that is set tells that the insert set a bit, and one that is clear that it set none
-replies-each : (v : SharedWords) → TellsInserts v 1 (5 ∷ 6 ∷ []) (1 ∷ [])
-    → MakesInsert v 1 5 false × MakesInsert v 1 6 true
+-- an answer for each hash, whether it is 5, by a step that leads from its turn to the next one
+abbrev IsFiveInTurn : ℕ → Bool → ℕ → ℕ → Type 0
+IsFiveInTurn hash answer first last = IsFive hash answer × (last ≡ first + 1)
+
+-- one hash has one step
+turns-one : TellsInTurn IsFiveInTurn (6 ∷ []) (0 ∷ [])
+unfolding content
+turns-one = record {
+  turns = λ i. i;
+  each = λ i within. let first : i ≡ 0 = omega (arith, within) in rw (first) (refl, refl);
+  rest = λ i past. content-zeros 1 i;
+}
+
+-- two hashes have two
+turns-two : (told : TellsInTurn IsFiveInTurn (6 ∷ 6 ∷ []) (0 ∷ []))
+    → told.turns 2 ≡ told.turns 0 + 1 → ⊥
+turns-two told one =
+    omega (arith, one, (told.each 0 (omega arith)).1, (told.each 1 (omega arith)).1)
+
+-- a bit that is set tells that the insert set a bit, and one that is clear that it set none; the
+-- second insert began at the turn to which the first led
+replies-each : (v : SharedWords) (told : TellsInserts v 1 (5 ∷ 6 ∷ []) (1 ∷ []))
+    → MakesCallInTurn v v 1 (Insert 5) (Some false) (told.turns 0) (told.turns 1)
+    × MakesCallInTurn v v 1 (Insert 6) (Some true) (told.turns 1) (told.turns 2)
 unfolding content
 replies-each v told = (told.each 0 (omega arith), told.each 1 (omega arith))
 

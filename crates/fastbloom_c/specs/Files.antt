@@ -1,10 +1,10 @@
 -- Heads of files, as C gives and takes them. The form of a file is that of `bloom_plain`.
 use Rattle.std.specs.Prelude.{ℕ, ◌%◌, ◌^◌, max, List, Option, Some, None, nat_eq, nat_le, if◌then◌else◌}
 use Rattle.bloom_parts.specs.Keys.{key_low, key_high}
-use Rattle.bloom_plain.specs.declared.file.head.Head.{Head}
-use Rattle.bloom_plain.specs.declared.file.error.FileError.{FileError}
-use Rattle.bloom_plain.specs.declared.file.error.FileError.TheVariants.{EmptyWords, TooManyWords, PartOfALine}
-use Rattle.bloom_plain.specs.FileCodes.{file_code_of}
+use Rattle.bloom_files.specs.declared.head.Head.{Head}
+use Rattle.bloom_files.specs.declared.error.FileError.{FileError}
+use Rattle.bloom_files.specs.declared.error.FileError.TheVariants.{EmptyWords, TooManyWords, PartOfALine}
+use Rattle.bloom_files.specs.FileCodes.{file_code_of}
 
 -- the head of a filter with this many words and hashes, where 0 hashes count as 1, under a key of
 -- sixteen bytes

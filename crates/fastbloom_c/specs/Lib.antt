@@ -7,4 +7,5 @@ pub mod Passed
 pub mod Plans
 pub mod Rates
 pub mod Shared
+pub mod SharedRates
 pub use Rattle.bloom_parts.specs.Many

@@ -6,10 +6,10 @@ ghost use Rattle.fastbloom_c.specs.Estimates.{TellsPart, ones_of};
 ghost use Rattle.fastbloom_c.specs.Files.{words_refusal, file_code_or_zero};
 
 use crate::estimates::are_words;
+use bloom_files::FileError;
 use bloom_parts::bit_vector::MAX_WORDS;
 use bloom_parts::math::{Bracket, false_pos_bounds, false_pos_of_ones};
 use bloom_parts::slices;
-use bloom_plain::file::FileError;
 
 /// Two bounds of the mean rate of false positives once this many items are in a filter, in units of
 /// 2^-63, and 0.

@@ -24,7 +24,7 @@ fn are_alike(words: &[u64], other: &[u64]) -> bool
 }
 
 // Hands out the two bounds of an estimate.
-fn tell(estimate: Estimate, low: &mut usize, high: &mut usize)
+pub(crate) fn tell(estimate: Estimate, low: &mut usize, high: &mut usize)
     ensures low { low.new ≡ least_of estimate }
     ensures high { high.new ≡ unwrap_or (most_of estimate) (2 ^ 64 - 1) }
 {

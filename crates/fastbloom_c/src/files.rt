@@ -1,12 +1,12 @@
 //! The head of a file whose filter isn't blocked, and its seal.
 ghost use Rattle.std.specs.Prelude.{◌≡◌, ◌<◌, length};
 ghost use Rattle.bloom_parts.specs.Keys.{key_low, key_high};
-ghost use Rattle.bloom_plain.specs.File.{bytes_of, head_numbers, seal_of};
-ghost use Rattle.bloom_plain.specs.FileRefusals.{number_at, whole_head_refusal};
+ghost use Rattle.bloom_files.specs.File.{bytes_of, head_numbers, seal_of};
+ghost use Rattle.bloom_files.specs.FileRefusals.{number_at, whole_head_refusal};
 ghost use Rattle.fastbloom_c.specs.Files.{head_for, words_refusal, file_code_or_zero};
 
+use bloom_files::{FileError, Head, head_bytes, read_head, seal};
 use bloom_parts::bit_vector::MAX_WORDS;
-use bloom_plain::file::{FileError, Head, head_bytes, read_head, seal};
 
 // The head of a filter with this many words and hashes, where 0 hashes count as 1, under a key.
 pub(crate) fn head_for(num_words: usize, num_hashes: u32, key: &[u8; 16]) -> Head

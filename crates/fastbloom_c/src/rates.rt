@@ -4,9 +4,9 @@ ghost use Rattle.bloom_parts.specs.Brackets.{rate_low, rate_high};
 ghost use Rattle.fastbloom_c.specs.Files.{words_refusal, file_code_or_zero};
 ghost use Rattle.fastbloom_c.specs.Rates.{HoldRate};
 
+use bloom_files::FileError;
 use bloom_parts::bit_vector::MAX_WORDS;
 use bloom_plain::expected_rate;
-use bloom_plain::file::FileError;
 
 /// Two bounds of the classical formula of the rate of false positives, once this many items are in
 /// a filter, in units of 2^-63, and 0. The formula is a lower bound of the mean rate.

@@ -19,10 +19,10 @@ use bloom_steps::calls::{contains_hash, insert_hash};
 
 // Whether there are words, and at most 2^58 - 1.
 #[inline(always)]
-pub(crate) fn make_filter(words: &RawWords) -> bool
-    ensures { IsTrue result ↔ MakeFilter words.now.len }
+pub(crate) fn make_filter(num_words: usize) -> bool
+    ensures { IsTrue result ↔ MakeFilter num_words }
 {
-    words.len() > 0 && words.len() <= MAX_WORDS
+    num_words > 0 && num_words <= MAX_WORDS
 }
 
 /// Sets all positions of a hash, and returns whether its own steps found all of them set already.
@@ -38,9 +38,10 @@ pub extern "C" fn fastbloom_shared_insert_hash(
     ensures none { (MakeFilter words.len → ⊥) → result ≡ false }
 {
     let words = words.shared();
-    if !make_filter(&words) {
+    let accepted = make_filter(words.len());
+    let Some(words) = words.unless_refused(accepted) else {
         return false;
-    }
+    };
     insert_hash(&LentWords::new(&words), num_hashes.max(1), hash)
 }
 
@@ -86,9 +87,10 @@ pub extern "C" fn fastbloom_shared_contains_hash(
     ensures none { (MakeFilter words.len → ⊥) → result ≡ false }
 {
     let words = words.shared();
-    if !make_filter(&words) {
+    let accepted = make_filter(words.len());
+    let Some(words) = words.unless_refused(accepted) else {
         return false;
-    }
+    };
     found_hashes_of(words, num_hashes.max(1), hash) > 0
 }
 

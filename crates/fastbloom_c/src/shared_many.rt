@@ -7,9 +7,10 @@ use crate::lent::LentWords;
 use crate::many::have_room;
 use crate::shared::{found_hashes, make_filter};
 use crate::words::{PassedWords, RawWords};
+use bloom_parts::bit_vector::Turn;
 use bloom_parts::slices::clear;
 use bloom_parts::slices::many::turn_on_where;
-use bloom_steps::calls::{insert_hash, insert_hashes};
+use bloom_steps::calls::{insert_hashes, insert_in_turn};
 
 /// Inserts each of these hashes, and returns whether there are words.
 ///
@@ -26,13 +27,21 @@ pub extern "C" fn fastbloom_shared_insert_hashes(
         → MakesInserts (vector_of words.at words.len) (max 1 num_hashes) hashes.now }
 {
     let words = words.shared();
-    if !make_filter(&words) {
+    let accepted = make_filter(words.len());
+    let Some(words) = words.unless_refused(accepted) else {
         return false;
-    }
+    };
     let lent = LentWords::new(&words);
     let num_hashes = num_hashes.max(1);
     insert_hashes(&lent, num_hashes, hashes);
     true
+}
+
+// Whether there are words, and bits enough for these hashes.
+fn have_bits(num_words: usize, hashes: usize, bits: usize) -> bool
+    ensures { IsTrue result ↔ (MakeFilter num_words × (hashes ≤ 64 * bits)) }
+{
+    make_filter(num_words) && have_room(num_words, hashes, bits)
 }
 
 // Looks up each of these hashes, and sets bit i where hash i was found, and no other.
@@ -72,15 +81,16 @@ pub extern "C" fn fastbloom_shared_contains_hashes(
     ensures shape { length found.new ≡ length found.old }
 {
     let words = words.shared();
-    if !make_filter(&words) || !have_room(words.len(), hashes.len(), found.len()) {
+    let accepted = have_bits(words.len(), hashes.len(), found.len());
+    let Some(words) = words.unless_refused(accepted) else {
         return false;
-    }
+    };
     find_each(&words, num_hashes.max(1), hashes, found);
     true
 }
 
-// Inserts each of these hashes, and sets bit i where the insert of hash i found a bit clear, and no
-// other.
+// Inserts each of these hashes, in order, and sets bit i where the insert of hash i found a bit
+// clear, and no other.
 fn insert_each_telling(words: &RawWords, num_hashes: u32, hashes: &[u64], fresh: &mut [u64])
     requires filter { MakeFilter words.now.len }
     requires hashes { 1 ≤ num_hashes }
@@ -90,9 +100,10 @@ fn insert_each_telling(words: &RawWords, num_hashes: u32, hashes: &[u64], fresh:
     ensures shape { length fresh.new ≡ length fresh.old }
 {
     clear(fresh);
+    let mut turn = Turn::first();
     let mut i: usize = 0;
     'hashes: for hash in hashes {
-        let was_on = insert_hash(&LentWords::new(words), num_hashes, *hash);
+        let was_on = insert_in_turn(&LentWords::new(words), &mut turn, num_hashes, *hash);
         turn_on_where(!was_on, fresh, i);
         i += 1;
     }
@@ -117,9 +128,10 @@ pub extern "C" fn fastbloom_shared_insert_hashes_tell_new(
     ensures shape { length fresh.new ≡ length fresh.old }
 {
     let words = words.shared();
-    if !make_filter(&words) || !have_room(words.len(), hashes.len(), fresh.len()) {
+    let accepted = have_bits(words.len(), hashes.len(), fresh.len());
+    let Some(words) = words.unless_refused(accepted) else {
         return false;
-    }
+    };
     insert_each_telling(&words, num_hashes.max(1), hashes, fresh);
     true
 }

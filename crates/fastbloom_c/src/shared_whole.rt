@@ -18,11 +18,19 @@ pub extern "C" fn fastbloom_shared_clear(words: PassedWords) -> bool
         MakesCallOn vector vector 1 call.Clear None }
 {
     let words = words.shared();
-    if !make_filter(&words) {
+    let accepted = make_filter(words.len());
+    let Some(words) = words.unless_refused(accepted) else {
         return false;
-    }
+    };
     clear(&LentWords::new(&words), 1);
     true
+}
+
+// Whether there are words, at most 2^58 - 1, and as many others.
+fn are_as_many(num_words: usize, others: usize) -> bool
+    ensures { IsTrue result ↔ (MakeFilter num_words × (others ≡ num_words)) }
+{
+    make_filter(num_words) && others == num_words
 }
 
 /// Sets what is found set in the other words, one word after the other, and returns whether it did.
@@ -34,11 +42,15 @@ pub extern "C" fn fastbloom_shared_union(words: PassedWords, other: PassedWords)
     ensures made { IsTrue result → MakesCallOn (vector_of words.at words.len)
         (vector_of other.at other.len) 1 call.Union None }
 {
-    let words = words.shared();
-    let other = other.shared();
-    if !make_filter(&words) || other.len() != words.len() {
+    let (words, other) = (words.shared(), other.shared());
+    let accepted = are_as_many(words.len(), other.len());
+    let (words, other) = (
+        words.unless_refused(accepted),
+        other.unless_refused(accepted),
+    );
+    let (Some(words), Some(other)) = (words, other) else {
         return false;
-    }
+    };
     union(&LentWords::new(&words), &LentWords::new(&other), 1);
     true
 }
@@ -53,11 +65,15 @@ pub extern "C" fn fastbloom_shared_intersect(words: PassedWords, other: PassedWo
     ensures made { IsTrue result → MakesCallOn (vector_of words.at words.len)
         (vector_of other.at other.len) 1 call.Intersect None }
 {
-    let words = words.shared();
-    let other = other.shared();
-    if !make_filter(&words) || other.len() != words.len() {
+    let (words, other) = (words.shared(), other.shared());
+    let accepted = are_as_many(words.len(), other.len());
+    let (words, other) = (
+        words.unless_refused(accepted),
+        other.unless_refused(accepted),
+    );
+    let (Some(words), Some(other)) = (words, other) else {
         return false;
-    }
+    };
     intersect(&LentWords::new(&words), &LentWords::new(&other), 1);
     true
 }
@@ -72,9 +88,10 @@ pub extern "C" fn fastbloom_shared_take(words: PassedWords, taken: &mut [u64]) -
     ensures shape { length taken.new ≡ length taken.old }
 {
     let words = words.shared();
-    if !make_filter(&words) || taken.len() != words.len() {
+    let accepted = are_as_many(words.len(), taken.len());
+    let Some(words) = words.unless_refused(accepted) else {
         return false;
-    }
+    };
     take_into(&LentWords::new(&words), 1, taken);
     true
 }
@@ -89,9 +106,10 @@ pub extern "C" fn fastbloom_shared_load(words: PassedWords, loaded: &mut [u64]) 
     ensures shape { length loaded.new ≡ length loaded.old }
 {
     let words = words.shared();
-    if !make_filter(&words) || loaded.len() != words.len() {
+    let accepted = are_as_many(words.len(), loaded.len());
+    let Some(words) = words.unless_refused(accepted) else {
         return false;
-    }
+    };
     load_into(&LentWords::new(&words), loaded);
     true
 }
@@ -104,8 +122,9 @@ pub extern "C" fn fastbloom_shared_count_ones(words: PassedWords) -> usize
     ensures none { (MakeFilter words.len → ⊥) → result ≡ 0 }
 {
     let words = words.shared();
-    if !make_filter(&words) {
+    let accepted = make_filter(words.len());
+    let Some(words) = words.unless_refused(accepted) else {
         return 0;
-    }
+    };
     count_ones(&LentWords::new(&words))
 }

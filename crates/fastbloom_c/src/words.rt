@@ -1,5 +1,5 @@
 //! Words at a pointer, each read or changed by one atomic operation.
-ghost use Rattle.std.specs.Prelude.{◌≡◌, ◌<◌};
+ghost use Rattle.std.specs.Prelude.{◌≡◌, ◌↔◌, ◌<◌, IfSome, IsSome, IsTrue};
 ghost use Rattle.fastbloom_c.specs.Passed.{vector_of};
 ghost use Rattle.bloom_parts.specs.Made.{FoundByLoad, FoundByOr, FoundByAnd, MadeZero, FoundBySwap};
 
@@ -50,6 +50,15 @@ impl PassedWords {
 }
 
 impl RawWords {
+    /// These words, or none where a call refuses them, which then has no words to change.
+    #[inline(always)]
+    pub fn unless_refused(self, accepted: bool) -> Option<Self>
+        ensures given { IsSome result ↔ IsTrue accepted }
+        ensures same { IfSome result (λ words. words ≡ self) }
+    {
+        if accepted { Some(self) } else { None }
+    }
+
     /// The number of words.
     #[inline(always)]
     pub fn len(&self) -> usize
@@ -85,13 +94,13 @@ impl RawWords {
         unsafe { raw::fetch_and::<Brand>(self.at.add(word), mask, SeqCst) }
     }
 
-    /// Clears every bit of a word.
+    /// Clears every bit of a word. Processors store in the one order of all steps by an exchange.
     #[inline(always)]
     pub fn store_zero(&self, word: usize)
         requires { word < self.now.len }
         ensures { MadeZero (vector_of self.now.at self.now.len) word }
     {
-        unsafe { raw::store::<Brand>(self.at.add(word), 0, SeqCst) }
+        self.swap_zero(word);
     }
 
     /// Clears every bit of a word, and returns the word as it was.

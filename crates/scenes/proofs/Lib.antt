@@ -1,2 +1,1 @@
 mod PieceFacts
-mod TallyFacts

@@ -1,6 +1,6 @@
 //! What both filters return from a call that takes no memory.
 use crate::making::Pair;
-use crate::scene::{Item, Told};
+use crate::scene::Item;
 
 /// Whether the insert of a hash returns this.
 pub(crate) fn insert_hash(pair: &mut Pair, hash: u64, said: bool) -> bool {
@@ -34,18 +34,11 @@ pub(crate) fn contains_item(pair: &Pair, item: &Item, said: bool) -> bool {
     }
 }
 
-/// Whether an item has this source hash.
-pub(crate) fn has_hash(pair: &Pair, item: &Item, hash: u64) -> bool {
-    let Pair { plain, shared } = pair;
-    match item {
-        Item::Number(number) => {
-            (plain.source_hash(number) == hash) & (shared.source_hash(number) == hash)
-        }
-        Item::Text(text) => {
-            (plain.source_hash(text) == hash) & (shared.source_hash(text) == hash)
-        }
-        Item::Nothing => (plain.source_hash(&()) == hash) & (shared.source_hash(&()) == hash),
-    }
+/// Inserts numbers that a slice lends.
+pub(crate) fn insert_all(pair: &mut Pair, numbers: &[u64]) -> bool {
+    pair.plain.insert_all(numbers);
+    pair.shared.insert_all(numbers);
+    true
 }
 
 /// Inserts the numbers from the first up to the last.
@@ -55,11 +48,11 @@ pub(crate) fn extend(pair: &mut Pair, first: u64, last: u64) -> bool {
     true
 }
 
-/// Whether both return the same for the numbers up to 400, and have those from the first to the
+/// Whether both return the same for the numbers up to 300, and have those from the first to the
 /// last.
 pub(crate) fn finds(pair: &Pair, first: u64, last: u64) -> bool {
     let mut is_right = true;
-    for number in 0..400u64 {
+    for number in 0..300u64 {
         let is_found = pair.plain.contains(&number);
         let is_in = (number >= first) & (number < last);
         is_right &= (is_found | !is_in) & (is_found == pair.shared.contains(&number));
@@ -85,48 +78,18 @@ pub(crate) fn unite_with_itself(pair: &Pair) -> bool {
     shared.same_words(shared)
 }
 
-/// Whether every bit is clear.
-pub(crate) fn is_empty(pair: &Pair) -> bool {
-    pair.plain.iter().all(|word| word == 0)
-}
-
-/// Whether the numbers of bits and of hashes are these.
-pub(crate) fn has_shape(pair: &Pair, num_bits: usize, num_hashes: u32) -> bool {
-    (pair.plain.num_bits() == num_bits) & (pair.plain.num_hashes() == num_hashes)
-}
-
 /// Whether this many bits are set.
 pub(crate) fn has_ones(pair: &Pair, ones: usize) -> bool {
     (pair.plain.count_ones() == ones) & (pair.shared.count_ones() == ones)
 }
 
-/// Whether the number of items is told with these bounds. Where there is no upper one, the lower
-/// isn't compared.
-pub(crate) fn has_bounds(pair: &Pair, low: usize, high: Option<usize>) -> bool {
-    let estimate = pair.plain.estimated_items();
-    let is_same = estimate == pair.shared.estimated_items();
-    is_same & (estimate.high() == high) & (high.is_none() | (estimate.low() == low))
-}
-
-/// Whether a rate has these ends.
-pub(crate) fn has_rate(pair: &Pair, told: &Told, low: u64, high: u64) -> bool {
+/// Whether both tell the same number of items, and the same rates.
+pub(crate) fn tell_the_same(pair: &Pair) -> bool {
     let Pair { plain, shared } = pair;
-    let (of_plain, of_shared) = match told {
-        Told::Expected(items) => {
-            (
-                plain.expected_false_pos(*items),
-                shared.expected_false_pos(*items),
-            )
-        }
-        Told::Mean(items) => {
-            (
-                plain.false_pos_bounds(*items),
-                shared.false_pos_bounds(*items),
-            )
-        }
-        Told::Now => (plain.false_pos_now(), shared.false_pos_now()),
-    };
-    (of_plain == of_shared) & (of_plain.low() == low) & (of_plain.high() == high)
+    (plain.estimated_items() == shared.estimated_items())
+        & (plain.false_pos_now() == shared.false_pos_now())
+        & (plain.false_pos_bounds(9) == shared.false_pos_bounds(9))
+        & (plain.expected_false_pos(9) == shared.expected_false_pos(9))
 }
 
 /// Whether these are the words that an iterator gives, where a hash is inserted behind the first: a

@@ -2,5 +2,4 @@
 mod bloom;
 mod duplicates;
 pub(crate) mod faulty;
-mod room;
 mod summaries;

@@ -1,11 +1,10 @@
-//! Files of filters: the worked file, what is refused, and odd readers and writers.
+//! Files of filters: the worked file, and readers and writers that are odd. Files that every reader
+//! refuses are tested from Python.
 
 mod in_lines;
-mod refused;
 mod streams;
 
-use bloom_plain::file::FileError;
-use fastbloom::{BloomFilter, DefaultHasher, FilterError, Text};
+use fastbloom::{BloomFilter, DefaultHasher, FileError, FilterError, FilterFile, Text};
 use std::alloc::Global;
 
 // The worked file of docs/FILE.md, as a program in Python makes it.
@@ -28,68 +27,32 @@ fn crabs(alloc: Global) -> Result<BloomFilter, FilterError> {
     Ok(filter)
 }
 
-// Whether a filter is the worked one.
-fn are_crabs(filter: &BloomFilter) -> bool {
-    let has_both = filter.contains(&Text(b"crab".as_slice()))
-        & filter.contains(&Text(b"lobster".as_slice()))
-        & !filter.contains(&Text(b"shrimp".as_slice()));
-    let has_words = filter.as_slice() == [0x1080_0080_4000_1400].as_slice();
-    has_both & has_words & (filter.num_hashes() == 3) & (filter.hasher().key() == KEY)
-}
-
-// Why the two ways to read refuse bytes, if they do.
-fn refusals(alloc: Global, bytes: &[u8]) -> (Option<FileError>, Option<FileError>) {
-    let mut input = bytes;
-    (
-        BloomFilter::from_bytes(alloc, bytes).err(),
-        BloomFilter::read_file(alloc, &mut input).err(),
-    )
-}
-
-// Whether a filter is written to a writer as the worked file.
-fn writes(alloc: Global, filter: &BloomFilter) -> bool {
-    let mut output = Vec::new(alloc);
-    filter.write_file(&mut output).is_ok() & (output.as_slice() == WORKED.as_slice())
-}
-
-// Whether it is in memory, too.
-fn writes_both(alloc: Global, filter: &BloomFilter) -> bool {
-    match filter.to_bytes(alloc) {
-        Ok(in_memory) => writes(alloc, filter) & (in_memory.as_slice() == WORKED.as_slice()),
-        Err(_refusal) => false,
-    }
-}
-
-// Whether both ways to write give the worked file.
-fn is_written(alloc: Global) -> bool {
-    match crabs(alloc) {
-        Ok(filter) => writes_both(alloc, &filter),
-        Err(_refusal) => false,
-    }
-}
-
-// Whether a filter was read that is the worked one.
-fn is_crabs(read: Result<BloomFilter, FileError>) -> bool {
+// Whether what was read is a filter, with its key.
+fn is_back(read: Result<BloomFilter, FileError>, filter: &BloomFilter) -> bool {
     match read {
-        Ok(filter) => are_crabs(&filter),
+        Ok(back) => (back == *filter) & (back.hasher().key() == filter.hasher().key()),
         Err(_refusal) => false,
     }
 }
 
-// Whether both ways to read give the worked filter, and the reader is at its end.
-fn is_read(alloc: Global, bytes: &[u8]) -> bool {
-    let in_memory = is_crabs(BloomFilter::from_bytes(alloc, bytes));
-    let mut input = bytes;
-    let from_reader = is_crabs(BloomFilter::read_file(alloc, &mut input));
-    in_memory & from_reader & input.is_empty()
+// Whether these are the bytes of a filter in memory, and the filter comes back from them.
+fn is_in_memory(alloc: Global, filter: &BloomFilter, file: &[u8]) -> bool {
+    let is_written = match filter.to_bytes(alloc) {
+        Ok(bytes) => bytes.as_slice() == file,
+        Err(_refusal) => false,
+    };
+    is_written & is_back(BloomFilter::from_bytes(alloc, file), filter)
 }
 
-// A file may have no seal. Byte 40 is the first of the seal.
+// Whether the worked file is that of its filter.
+fn is_worked(alloc: Global) -> bool {
+    match crabs(alloc) {
+        Ok(filter) => is_in_memory(alloc, &filter, &WORKED),
+        Err(_refusal) => false,
+    }
+}
+
 #[test]
 fn the_worked_file_is_written_and_read(rt: HostRuntime) {
-    let mut unsealed = WORKED;
-    unsealed[40..48].copy_from_slice(&[0; 8]);
-    assert!(rt; is_written(rt.alloc()));
-    assert!(rt; is_read(rt.alloc(), &WORKED));
-    assert!(rt; is_read(rt.alloc(), &unsealed));
+    assert!(rt; is_worked(rt.alloc()));
 }

@@ -206,3 +206,29 @@ fn is_made_alike<R: Threads>(rt: &R, alloc: Global) -> bool {
 fn a_hundred_workers_make_the_filter_of_one_thread(rt: HostRuntime) {
     assert!(rt; is_made_alike(&rt, rt.alloc()));
 }
+
+// A gate at which each worker lets other threads run. There dev/starve looks at the words of the
+// filters, by their size.
+#[derive(Drop)]
+struct Yielding;
+
+impl Gate for Yielding {
+    fn pass(&self, _worker: usize) {
+        yield_now();
+    }
+}
+
+// Whether a worker sets the three positions of a hash among 4,099 words.
+fn is_set_behind<R: Threads>(rt: &R, alloc: Global) -> Result<bool, FilterError> {
+    let gate = Arc::new(alloc, Yielding)?;
+    let parts = parts_of(alloc, &[&[1]])?;
+    match fill(rt, alloc, gate, Shape::new(64 * 4099, 3)?, parts) {
+        Ok(filter) => Ok(filter.count_ones() == 3),
+        Err(refusal) => Err(refusal),
+    }
+}
+
+#[test]
+fn a_worker_sets_its_positions_behind_the_gate(rt: HostRuntime) {
+    assert!(rt; matches!(is_set_behind(&rt, rt.alloc()), Ok(true)));
+}

@@ -1,4 +1,4 @@
-//! Follows scenes: after each line both filters have the same words, hashes and hasher.
+//! Follows scripted tests: after each line both filters have the same words, hashes and hasher.
 use crate::making::{Pair, Refused, are_alike, have_words, pair_of, plain_of, shared_of};
 use crate::scene::{Line, Make, Op, Scene, Size};
 use crate::telling::{tell_named, tell_row};
@@ -22,26 +22,19 @@ fn holds(alloc: Global, pair: &mut Pair, line: &Line) -> Result<bool, Refused> {
         Op::Contains(hash) => Ok(answers::contains_hash(pair, *hash, *said)),
         Op::InsertItem(item) => Ok(answers::insert_item(pair, item, *said)),
         Op::ContainsItem(item) => Ok(answers::contains_item(pair, item, *said)),
-        Op::Hash(item, hash) => Ok(*said & answers::has_hash(pair, item, *hash)),
+        Op::InsertAll(numbers) => Ok(*said & answers::insert_all(pair, numbers)),
         Op::Extend(first, last) => Ok(*said & answers::extend(pair, *first, *last)),
         Op::Finds(first, last) => Ok(*said & answers::finds(pair, *first, *last)),
         Op::Clear => Ok(*said & answers::clear(pair)),
         Op::UniteWithItself => Ok(*said & answers::unite_with_itself(pair)),
         Op::Words(words) => Ok(*said & have_words(pair, words)),
-        Op::IsEmpty => Ok(*said & answers::is_empty(pair)),
-        Op::Shape(bits, hashes) => Ok(*said & answers::has_shape(pair, *bits, *hashes)),
         Op::Ones(ones) => Ok(*said & answers::has_ones(pair, *ones)),
-        Op::Bounds(low, high) => Ok(*said & answers::has_bounds(pair, *low, *high)),
-        Op::Rate(told, low, high) => Ok(*said & answers::has_rate(pair, told, *low, *high)),
+        Op::Estimates => Ok(*said & answers::tell_the_same(pair)),
         Op::InsertBetween(hash, first, second) => {
             Ok(*said & answers::insert_between(pair, *hash, *first, *second))
         }
-        Op::InsertAll(first, last) => {
-            said_so(*said, memory::insert_all(alloc, pair, *first, *last))
-        }
         Op::Meet(words, unites) => memory::meet(alloc, pair, words, *unites, *said),
-        Op::Clone => memory::copy(alloc, pair, *said),
-        Op::Data(k0, k1) => said_so(*said, memory::to_data_and_back(alloc, pair, *k0, *k1)),
+        Op::Clone => said_so(*said, memory::copy(alloc, pair)),
         Op::Cross(by_text) => said_so(*said, memory::cross(alloc, pair, *by_text)),
         Op::Take => said_so(*said, memory::take(alloc, pair)),
         Op::Replay(replies) => said_so(*said, memory::replay(alloc, pair, replies)),
@@ -81,7 +74,7 @@ pub(crate) fn follow(alloc: Global, make: &Make, lines: &[Line]) -> Result<Optio
     }
 }
 
-// Whether all lines of a scene return what they say. If not, its name and the line are told.
+// Whether each line of a scripted test returns what it says. If not, test and line are told.
 fn holds_true(rt: &HostRuntime, scene: &Scene) -> bool {
     match follow(rt.alloc(), &scene.make, scene.lines) {
         Ok(None) => true,
@@ -90,19 +83,12 @@ fn holds_true(rt: &HostRuntime, scene: &Scene) -> bool {
     }
 }
 
-// Whether all scenes of a table return what they say.
-fn hold_true(rt: &HostRuntime, scenes: &[Scene]) -> bool {
-    let mut all = true;
-    for scene in scenes {
-        all &= holds_true(rt, scene);
-    }
-    all
-}
-
 #[test]
 fn both_filters_answer_each_scene_as_said(rt: HostRuntime) {
     for scenes in rows::all() {
-        assert!(rt; hold_true(&rt, scenes));
+        for scene in scenes {
+            assert!(rt; holds_true(&rt, scene));
+        }
     }
 }
 
@@ -137,15 +123,16 @@ fn is_refused<T: Drop>(outcome: Result<T, Refused>, reason: FilterError) -> bool
     }
 }
 
-// Whether both filters are refused for this reason.
-fn are_refused(alloc: Global, make: &Make, reason: FilterError) -> bool {
-    let is_shared = is_refused(shared_of(alloc, make), reason);
-    is_shared & is_refused(plain_of(alloc, make), reason)
-}
-
 #[test]
 fn both_filters_are_refused_in_order(rt: HostRuntime) {
-    for (i, (make, reason)) in rows::refusals().iter().enumerate() {
-        assert!(rt; tell_row(&rt, i, are_refused(rt.alloc(), make, *reason)));
+    for (i, (make, reason)) in rows::REFUSALS.iter().enumerate() {
+        let is_shared = is_refused(shared_of(rt.alloc(), make), *reason);
+        assert!(rt;
+            tell_row(
+                &rt,
+                i,
+                is_shared & is_refused(plain_of(rt.alloc(), make), *reason)
+            )
+        );
     }
 }

@@ -1,8 +1,7 @@
-//! Filters that grow: their sizes at values worked out by hand from the definitions, and refusals.
+//! Filters that grow: their sizes at values worked out by hand from the definitions.
 
 use crate::drawn::spread;
-use crate::telling::{has_text, tell_row};
-use fastbloom::{FilterError, GrowingError, GrowingFilter, Rate};
+use fastbloom::{GrowingError, GrowingFilter, Rate};
 use std::alloc::Global;
 
 // How many new hashes came before each of the first four filters for a rate of 1/10 and 8 items,
@@ -28,96 +27,30 @@ fn is_grown(filter: &GrowingFilter, new: usize) -> bool {
     (shape == (*bits, *hashes)) & is_begun & (before.saturating_add(taken) == new)
 }
 
-// Whether the newest filter is that of its row after a hash went in, which is found. New hashes are
-// counted.
-fn takes(alloc: Global, filter: &mut GrowingFilter, hash: u64, new: &mut usize) -> bool {
-    let Ok(held) = filter.insert_hash(alloc, hash) else {
-        return false;
-    };
-    *new = (*new).saturating_add(!held as usize);
-    is_grown(filter, *new) & filter.contains_hash(hash)
-}
-
-// Whether this holds after each of a hundred hashes.
-fn takes_hundred(alloc: Global, filter: &mut GrowingFilter) -> bool {
+// Whether this holds after each of a hundred hashes, and the newest filter is the fourth in the
+// end. An item that goes in is found, too.
+fn grows(alloc: Global, filter: &mut GrowingFilter) -> Result<bool, GrowingError> {
     let mut new = 0usize;
     let mut is_right = true;
     for i in 0..100u64 {
-        is_right &= takes(alloc, filter, spread(i), &mut new);
+        let held = filter.insert_hash(alloc, spread(i))?;
+        new = new.saturating_add(!held as usize);
+        is_right &= is_grown(filter, new) & filter.contains_hash(spread(i));
     }
-    is_right
+    filter.insert(alloc, &"crab")?;
+    Ok(is_right & (filter.older().len() == 3) & filter.contains(&"crab"))
 }
 
-// Whether a filter takes them, and the newest is the fourth in the end. An item that goes in is
-// found, too.
-fn grows(alloc: Global, filter: &mut GrowingFilter) -> bool {
-    let has_four = takes_hundred(alloc, filter) & (filter.older().len() == 3);
-    has_four & filter.insert(alloc, &"crab").is_ok() & filter.contains(&"crab")
-}
-
-// A filter for a rate of 1/10 and 8 items.
-fn growing_filter(alloc: Global) -> Result<GrowingFilter, GrowingError> {
-    GrowingFilter::new(alloc, Rate::new(1, 10)?, 8)
-}
-
-// Whether it grows so.
-fn one_grows(alloc: Global) -> bool {
-    match growing_filter(alloc) {
+// Whether a filter for a rate of 1/10 and 8 items grows so.
+fn one_grows(alloc: Global) -> Result<bool, GrowingError> {
+    let rate = Rate::new(1, 10)?;
+    match GrowingFilter::new(alloc, rate, 8) {
         Ok(mut filter) => grows(alloc, &mut filter),
-        Err(_refusal) => false,
+        Err(refusal) => Err(refusal),
     }
 }
 
 #[test]
 fn each_filter_begins_when_the_one_before_is_full(rt: HostRuntime) {
-    assert!(rt; one_grows(rt.alloc()));
-}
-
-// Refusals, with their texts, and the parts of a rate and the items that bring them. The first
-// filter is for half the rate: at 1/1 the sizes are 2^64 - 8 bits, and for one item more 2^64. A
-// refusal of the builders keeps its text. No filter is so large that its items are too many.
-type Refused = (GrowingError, &'static str, Option<(u64, u64, usize)>);
-
-const REFUSED: &'static [Refused] = &[
-    (
-        GrowingError::RateOverflow,
-        "lower part of the rate too large",
-        Some((1, 9223372036854775808, 1)),
-    ),
-    (GrowingError::TooManyItems, "too many items", None),
-    (
-        GrowingError::Filter(FilterError::TooManyWords),
-        "too many words",
-        Some((1, 1, 12786308645202655226)),
-    ),
-    (
-        GrowingError::Filter(FilterError::SizeOverflow),
-        "size too large",
-        Some((1, 1, 12786308645202655227)),
-    ),
-];
-
-// Why no filter is made of the parts of a rate and this many items.
-fn refusal(alloc: Global, num: u64, den: u64, items: usize) -> Option<GrowingError> {
-    match Rate::new(num, den) {
-        Ok(rate) => GrowingFilter::new(alloc, rate, items).err(),
-        Err(_refusal) => None,
-    }
-}
-
-// Whether a refusal has its text, and comes where its row says.
-fn is_refused(alloc: Global, row: &Refused) -> bool {
-    let (error, text, asked) = *row;
-    let comes = match asked {
-        Some((num, den, items)) => refusal(alloc, num, den, items) == Some(error),
-        None => true,
-    };
-    comes & has_text(alloc, &error, text)
-}
-
-#[test]
-fn a_filter_that_cannot_be_made_is_refused(rt: HostRuntime) {
-    for (i, row) in REFUSED.iter().enumerate() {
-        assert!(rt; tell_row(&rt, i, is_refused(rt.alloc(), row)));
-    }
+    assert!(rt; matches!(one_grows(rt.alloc()), Ok(true)));
 }

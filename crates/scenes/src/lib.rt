@@ -1,7 +1,18 @@
 //! Tests of the filters, of their parts, and of the programs' engines: what no contract says.
+//!
+//! - `scene`, `rows`, `making`, `follow`: scripted tests. A row says how a plain and a shared
+//!   filter are made, and what both return from the same calls; after each call all words are
+//!   compared.
+//! - `hashing`, `numbers`, `estimates`, `steps`: values from outside, or worked out by hand.
+//! - `blocked`, `growing`, `rotating`, `seated`, `fills`, `files`: one kind of filter, or its
+//!   files.
+//! - `threads`: threads that share a filter.
+//! - `room`: each request for memory refused in turn, by `dev/starve`.
+//! - `engines`: the programs' engines over readers, writers and sieves that fail or are odd.
+//! - `used`: the examples of the pages.
 #![tactic(auto)]
 
-// A scene of a name, how its filters are made, and its lines.
+// A scripted test: its name, how its filters are made, and its lines.
 #[cfg(test)]
 macro_rules! scene {
     ($name:expr, $make:expr, $($line:expr),+ $(,)?) => {
@@ -16,8 +27,6 @@ macro_rules! scene {
 #[cfg(test)]
 mod answers;
 #[cfg(test)]
-mod bits;
-#[cfg(test)]
 mod blocked;
 #[cfg(test)]
 mod concrete;
@@ -25,8 +34,6 @@ mod concrete;
 mod drawn;
 #[cfg(test)]
 mod engines;
-#[cfg(test)]
-mod estimates;
 #[cfg(test)]
 mod files;
 #[cfg(test)]
@@ -40,9 +47,9 @@ mod hashing;
 #[cfg(test)]
 mod making;
 #[cfg(test)]
-mod many;
-#[cfg(test)]
 mod memory;
+#[cfg(test)]
+mod nothing;
 #[cfg(test)]
 mod numbers;
 #[cfg(test)]
@@ -61,6 +68,8 @@ mod seated;
 mod steps;
 #[cfg(test)]
 mod telling;
+#[cfg(test)]
+mod texts;
 #[cfg(test)]
 mod threads;
 #[cfg(test)]

@@ -1,8 +1,7 @@
-//! How both filters of a scene are made, and whether they are alike.
+//! How both filters of a scripted test are made, and whether they are alike.
 use crate::scene::{Make, Size};
 use fastbloom::{
-    AtomicBloomFilter, AtomicBuilderWithBits, BitsData, BloomFilter, BuilderWithBits, FilterData,
-    FilterError, Rate,
+    AtomicBloomFilter, AtomicBuilderWithBits, BloomFilter, BuilderWithBits, FilterError, Rate,
 };
 use std::alloc::Global;
 
@@ -48,56 +47,24 @@ pub(crate) fn words_of(alloc: Global, words: &[u64]) -> Result<Vec<u64>, Refused
     }
 }
 
-/// Data of these words and this key.
-pub(crate) fn data_of(
-    alloc: Global,
-    words: &[u64],
-    num_hashes_minus_one: u32,
-    k0: u64,
-    k1: u64,
-) -> Result<FilterData, Refused> {
-    Ok(FilterData {
-        bits: BitsData {
-            bits: words_of(alloc, words)?,
-        },
-        num_hashes_minus_one,
-        k0,
-        k1,
-    })
+fn plain_words(alloc: Global, words: &[u64]) -> Result<BuilderWithBits, Refused> {
+    named("from_vec", BloomFilter::from_vec(words_of(alloc, words)?))
 }
 
-fn plain_for(builder: BuilderWithBits, size: &Size) -> BloomFilter {
-    match size {
+fn plain_by(
+    builder: Result<BuilderWithBits, Refused>,
+    seed: &u128,
+    size: &Size,
+) -> Result<BloomFilter, Refused> {
+    let builder = builder?.seed(seed);
+    Ok(match size {
         Size::Hashes(hashes) => builder.hashes(*hashes),
         Size::Expected(number) => builder.expected_items(*number),
         Size::Numbers(numbers) => builder.items(*numbers),
-        Size::Texts(texts) => builder.items(*texts),
-    }
+    })
 }
 
-fn plain_of_bits(alloc: Global, bits: usize, size: &Size) -> Result<BloomFilter, Refused> {
-    let builder = named("with_num_bits", BloomFilter::with_num_bits(alloc, bits))?;
-    Ok(plain_for(builder, size))
-}
-
-fn plain_of_words(
-    alloc: Global,
-    words: &[u64],
-    seed: &u128,
-    size: &Size,
-) -> Result<BloomFilter, Refused> {
-    let builder = named("from_vec", BloomFilter::from_vec(words_of(alloc, words)?))?;
-    Ok(plain_for(builder.seed(seed), size))
-}
-
-fn plain_at(
-    alloc: Global,
-    num: u64,
-    den: u64,
-    seed: &u128,
-    size: &Size,
-) -> Result<BloomFilter, Refused> {
-    let rate = named("Rate::new", Rate::new(num, den))?;
+fn plain_at(alloc: Global, rate: Rate, seed: &u128, size: &Size) -> Result<BloomFilter, Refused> {
     let builder = BloomFilter::with_false_pos(rate).seed(seed);
     match size {
         Size::Hashes(_) => Err(NO_SUCH_CALL),
@@ -108,36 +75,40 @@ fn plain_at(
             )
         }
         Size::Numbers(numbers) => named("items by rate", builder.items(alloc, *numbers)),
-        Size::Texts(texts) => named("items by rate", builder.items(alloc, *texts)),
     }
-}
-
-fn plain_of_data(
-    alloc: Global,
-    words: &[u64],
-    num_hashes_minus_one: u32,
-    k0: u64,
-    k1: u64,
-) -> Result<BloomFilter, Refused> {
-    let form = data_of(alloc, words, num_hashes_minus_one, k0, k1)?;
-    named("from_data", BloomFilter::from_data(form))
 }
 
 /// The plain filter.
 pub(crate) fn plain_of(alloc: Global, make: &Make) -> Result<BloomFilter, Refused> {
     match make {
-        Make::Bits(bits, size) => plain_of_bits(alloc, *bits, size),
-        Make::Words(words, seed, size) => plain_of_words(alloc, words, seed, size),
-        Make::Rate(num, den, seed, size) => plain_at(alloc, *num, *den, seed, size),
-        Make::Data(words, less_one, k0, k1) => { plain_of_data(alloc, words, *less_one, *k0, *k1) }
+        Make::Bits(bits, size) => {
+            let builder = named("with_num_bits", BloomFilter::with_num_bits(alloc, *bits));
+            plain_by(builder, &0, size)
+        }
+        Make::Words(words, seed, size) => plain_by(plain_words(alloc, words), seed, size),
+        Make::Rate(num, den, seed, size) => {
+            plain_at(
+                alloc,
+                named("Rate::new", Rate::new(*num, *den))?,
+                seed,
+                size,
+            )
+        }
     }
 }
 
-fn shared_for(
+fn shared_words(alloc: Global, words: &[u64]) -> Result<AtomicBuilderWithBits, Refused> {
+    let builder = AtomicBloomFilter::from_vec(words_of(alloc, words)?);
+    named("shared from_vec", builder)
+}
+
+fn shared_by(
     alloc: Global,
-    builder: AtomicBuilderWithBits,
+    builder: Result<AtomicBuilderWithBits, Refused>,
+    seed: &u128,
     size: &Size,
 ) -> Result<AtomicBloomFilter, Refused> {
+    let builder = builder?.seed(seed);
     match size {
         Size::Hashes(hashes) => named("shared hashes", builder.hashes(alloc, *hashes)),
         Size::Expected(number) => {
@@ -147,7 +118,6 @@ fn shared_for(
             )
         }
         Size::Numbers(numbers) => named("shared items", builder.items(alloc, *numbers)),
-        Size::Texts(texts) => named("shared items", builder.items(alloc, *texts)),
     }
 }
 
@@ -165,41 +135,24 @@ fn shared_at(
             builder.expected_items(alloc, *number),
         ),
         Size::Numbers(numbers) => named("shared items by rate", builder.items(alloc, *numbers)),
-        Size::Texts(texts) => named("shared items by rate", builder.items(alloc, *texts)),
     }
-}
-
-fn shared_of_bits(alloc: Global, bits: usize, size: &Size) -> Result<AtomicBloomFilter, Refused> {
-    let builder = AtomicBloomFilter::with_num_bits(alloc, bits);
-    shared_for(alloc, named("shared with_num_bits", builder)?, size)
-}
-
-fn shared_of_words(
-    alloc: Global,
-    words: &[u64],
-    seed: &u128,
-    size: &Size,
-) -> Result<AtomicBloomFilter, Refused> {
-    let builder = AtomicBloomFilter::from_vec(words_of(alloc, words)?);
-    shared_for(alloc, named("shared from_vec", builder)?.seed(seed), size)
-}
-
-fn shared_of_data(alloc: Global, form: FilterData) -> Result<AtomicBloomFilter, Refused> {
-    let made = AtomicBloomFilter::from_data(alloc, form);
-    named("shared from_data", made)
 }
 
 /// The shared filter.
 pub(crate) fn shared_of(alloc: Global, make: &Make) -> Result<AtomicBloomFilter, Refused> {
     match make {
-        Make::Bits(bits, size) => shared_of_bits(alloc, *bits, size),
-        Make::Words(words, seed, size) => shared_of_words(alloc, words, seed, size),
-        Make::Rate(num, den, seed, size) => match named("Rate::new", Rate::new(*num, *den)) {
-            Ok(rate) => shared_at(alloc, rate, seed, size),
-            Err(refused) => Err(refused),
-        },
-        Make::Data(words, less_one, k0, k1) => {
-            shared_of_data(alloc, data_of(alloc, words, *less_one, *k0, *k1)?)
+        Make::Bits(bits, size) => {
+            let builder = AtomicBloomFilter::with_num_bits(alloc, *bits);
+            shared_by(alloc, named("shared with_num_bits", builder), &0, size)
+        }
+        Make::Words(words, seed, size) => shared_by(alloc, shared_words(alloc, words), seed, size),
+        Make::Rate(num, den, seed, size) => {
+            shared_at(
+                alloc,
+                named("Rate::new", Rate::new(*num, *den))?,
+                seed,
+                size,
+            )
         }
     }
 }

@@ -1,13 +1,10 @@
 //! What both filters return from a call that takes memory, or that needs another filter.
 mod data;
 
-use crate::answers::has_shape;
-use crate::making::{
-    Pair, Refused, THE_TEST, are_alike, have_words, named, pair_of, paired, words_of,
-};
+use crate::making::{Pair, Refused, are_alike, have_words, named, pair_of, paired};
 use crate::scene::{Make, Size};
-pub(crate) use data::{cross, to_data_and_back};
-use fastbloom::{AtomicBloomFilter, BloomFilter, Command, FilterError};
+pub(crate) use data::cross;
+use fastbloom::{AtomicBloomFilter, BloomFilter, Command};
 use std::alloc::Global;
 
 // The key of the other filters, which no call looks at.
@@ -68,19 +65,13 @@ pub(crate) fn meet(
     }
 }
 
-/// Whether both filters have the shape of others, or haven't.
-pub(crate) fn have_same_shape(pair: &Pair, other: &Pair, said: bool) -> bool {
-    let plain = pair.plain.same_shape(&other.plain) == said;
-    plain & (pair.shared.same_shape(&other.shared) == said)
-}
-
-/// Whether both filters have the shape and words of others, or haven't.
-pub(crate) fn have_same_words(pair: &Pair, other: &Pair, said: bool) -> bool {
-    let is_equal = (pair.plain == other.plain) == said;
-    let differs = (pair.plain != other.plain) != said;
-    let is_same = pair.shared.same_words(&other.shared) == said;
-    let turned = other.shared.same_words(&pair.shared) == said;
-    is_equal & differs & is_same & turned
+/// Whether both filters have the shape of others, or haven't, and their words, or haven't.
+pub(crate) fn compare_with(pair: &Pair, other: &Pair, same_shape: bool, same_words: bool) -> bool {
+    (pair.plain.same_shape(&other.plain) == same_shape)
+        & (pair.shared.same_shape(&other.shared) == same_shape)
+        & ((pair.plain == other.plain) == same_words)
+        & (pair.shared.same_words(&other.shared) == same_words)
+        & (other.shared.same_words(&pair.shared) == same_words)
 }
 
 /// Whether the shape, and the shape and words, are found to be those of filters of these words and
@@ -95,29 +86,11 @@ pub(crate) fn compare(
 ) -> Result<bool, Refused> {
     match other_of(alloc, words, num_hashes) {
         Ok(other) => {
-            let shapes = have_same_shape(pair, &other, same_shape);
-            Ok(shapes & have_same_words(pair, &other, same_words) & have_words(&other, words))
+            let is_right = compare_with(pair, &other, same_shape, same_words);
+            Ok(is_right & have_words(&other, words))
         }
         Err(refused) => Err(refused),
     }
-}
-
-/// Inserts the numbers from the first up to the last, which a vector lends.
-pub(crate) fn insert_all(
-    alloc: Global,
-    pair: &mut Pair,
-    first: u64,
-    last: u64,
-) -> Result<bool, Refused> {
-    let Ok(numbers) = (first..last).collect::<Vec<u64>>(alloc) else {
-        return Err(Refused {
-            call: THE_TEST,
-            reason: FilterError::Memory,
-        });
-    };
-    pair.plain.insert_all(&numbers);
-    pair.shared.insert_all(&numbers);
-    Ok(true)
 }
 
 // Copies of both filters.
@@ -131,20 +104,20 @@ fn copies_of(alloc: Global, pair: &Pair) -> Result<Pair, Refused> {
     }
 }
 
-// Whether copies are alike and equal the filters, and differ from them, or don't, once the item 42
-// went into them.
-fn are_copies(pair: &Pair, copies: &mut Pair, said: bool) -> bool {
-    let are_equal = have_same_words(copies, pair, true) & are_alike(copies);
+// Whether copies are alike and equal the filters, and differ from them once the item 42 went into
+// them.
+fn are_copies(pair: &Pair, copies: &mut Pair) -> bool {
+    let are_equal = compare_with(copies, pair, true, true) & are_alike(copies);
     copies.plain.insert(&42u64);
     copies.shared.insert(&42u64);
-    are_equal & have_same_words(copies, pair, !said)
+    are_equal & compare_with(copies, pair, true, false)
 }
 
-/// Whether copies are alike and equal the filters, and differ from them, or don't, once the item 42
-/// went into the copies.
-pub(crate) fn copy(alloc: Global, pair: &Pair, said: bool) -> Result<bool, Refused> {
+/// Whether copies are alike and equal the filters, and differ from them once the item 42 went into
+/// the copies.
+pub(crate) fn copy(alloc: Global, pair: &Pair) -> Result<bool, Refused> {
     match copies_of(alloc, pair) {
-        Ok(mut copies) => Ok(are_copies(pair, &mut copies, said)),
+        Ok(mut copies) => Ok(are_copies(pair, &mut copies)),
         Err(refused) => Err(refused),
     }
 }
@@ -164,17 +137,7 @@ pub(crate) fn take(alloc: Global, pair: &mut Pair) -> Result<bool, Refused> {
     }
 }
 
-// Whether the calls of a list reply so one by one.
-fn reply_singly(shared: &AtomicBloomFilter, said: &[bool]) -> bool {
-    let first = shared.contains_hash(1);
-    let inserts = (shared.insert_hash(1), shared.insert_hash(1));
-    let fourth = shared.contains_hash(0);
-    shared.clear();
-    let singly = [first, inserts.0, inserts.1, fourth, shared.contains_hash(1)];
-    singly.as_slice() == said
-}
-
-/// Whether a list is carried out with these replies, and its calls one by one too.
+/// Whether a list, in the end of which the filters are cleared, is carried out with these replies.
 pub(crate) fn replay(alloc: Global, pair: &mut Pair, said: &[bool]) -> Result<bool, Refused> {
     let list = [
         Command::Contains(1),
@@ -184,8 +147,9 @@ pub(crate) fn replay(alloc: Global, pair: &mut Pair, said: &[bool]) -> Result<bo
         Command::Clear,
         Command::Contains(1),
     ];
-    match named("replay", pair.plain.replay(alloc, &list)) {
-        Ok(replies) => Ok((replies.as_slice() == said) & reply_singly(&pair.shared, said)),
+    let replayed = pair.plain.replay(alloc, &list);
+    match named("replay", replayed) {
+        Ok(replies) => Ok(replies.as_slice() == said),
         Err(refused) => Err(refused),
     }
 }
@@ -198,7 +162,10 @@ pub(crate) fn build(
     num_hashes: u32,
 ) -> Result<bool, Refused> {
     match pair_of(alloc, make) {
-        Ok(built) => Ok(are_alike(&built) & has_shape(&built, num_bits, num_hashes)),
+        Ok(built) => {
+            let has_shape = (built.plain.num_bits(), built.plain.num_hashes());
+            Ok(are_alike(&built) & (has_shape == (num_bits, num_hashes)))
+        }
         Err(refused) => Err(refused),
     }
 }

@@ -1,10 +1,9 @@
-//! Numbers of hashes, sizes, rates and brackets at values from outside, and the refusals' texts.
-use crate::telling::{has_text, tell_row};
+//! Numbers of hashes, sizes, rates and brackets at values from outside.
+use crate::telling::tell_row;
 use fastbloom::{
     Bracket, FilterError, Rate, expected_density, expected_false_pos, false_pos_bounds,
     false_pos_of_either, false_pos_of_ones, optimal_hashes, optimal_size,
 };
-use std::alloc::Global;
 
 // A function's arguments, and its value. Both ends of a bracket are in units of 2^-63.
 enum Row {
@@ -152,31 +151,4 @@ fn numbers_are_those_from_outside(rt: HostRuntime) {
         assert!(rt; tell_row(&rt, i, holds(row)));
     }
     assert!(rt; are_in_range());
-}
-
-// A refusal, its number and its text.
-type Refusal = (FilterError, u8, &'static str);
-
-const REFUSALS: &'static [Refusal] = &[
-    (FilterError::ZeroBits, 1, "zero bits"),
-    (FilterError::EmptyWords, 2, "no words"),
-    (FilterError::TooManyWords, 3, "too many words"),
-    (FilterError::ZeroRate, 4, "rate with a zero part"),
-    (FilterError::SizeOverflow, 5, "size too large"),
-    (FilterError::Memory, 6, "no memory"),
-    (FilterError::HashCount, 7, "hash count too large"),
-    (FilterError::Worker, 8, "no worker"),
-];
-
-// Whether a refusal has its number and its text.
-fn is_told(alloc: Global, refusal: &Refusal) -> bool {
-    let (error, code, text) = refusal;
-    has_text(alloc, error, text) & (error.code() == *code)
-}
-
-#[test]
-fn refusals_have_these_numbers_and_texts(rt: HostRuntime) {
-    for (i, refusal) in REFUSALS.iter().enumerate() {
-        assert!(rt; tell_row(&rt, i, is_told(rt.alloc(), refusal)));
-    }
 }

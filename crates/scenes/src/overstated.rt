@@ -2,8 +2,6 @@
 ghost use Rattle.std.specs.Prelude.{◌≤◌, length};
 ghost use Rattle.std.specs.Iterator.{at_most};
 
-use crate::answers::has_shape;
-use crate::making::{Pair, Refused, are_alike, have_words, named, paired};
 use fastbloom::{AtomicBloomFilter, BloomFilter, FilterError, Rate};
 use std::alloc::Global;
 use std::cell::Cell;
@@ -54,36 +52,15 @@ fn three_of(said: usize, taken: &Cell<usize>) -> Overstated<'_>
 // The word of the items 1, 2 and 3, where there is one hash, by a model of SipHash-1-3.
 const THREE: u64 = 9223374235878031488;
 
-// A shared filter of 64 bits for 500 items, of which three come.
-fn shared_of(alloc: Global, taken: &Cell<usize>) -> Result<AtomicBloomFilter, FilterError> {
-    let builder = AtomicBloomFilter::with_num_bits(alloc, 64)?;
-    builder.items(alloc, three_of(500, taken))
-}
-
-// Both filters of 64 bits for 500 items, of which three come.
-fn pair_of(alloc: Global, taken: &Cell<usize>) -> Result<Pair, Refused> {
-    match named("with_num_bits", BloomFilter::with_num_bits(alloc, 64)) {
-        Ok(builder) => {
-            let plain = builder.items(three_of(500, taken));
-            paired(plain, named("shared items", shared_of(alloc, taken)))
-        }
-        Err(refused) => Err(refused),
-    }
-}
-
-// Whether both filters are sized for 500 items, one hash, and have the three that come.
-fn have_three(pair: &Pair) -> bool {
-    are_alike(pair) & has_shape(pair, 64, 1) & have_words(pair, &[THREE])
-}
-
-// Whether both filters are made so, of three items each.
-fn are_sized(alloc: Global) -> bool {
+// Whether filters of 64 bits are sized for 500 items, one hash, and have the three that come.
+fn are_sized(alloc: Global) -> Result<bool, FilterError> {
     let taken = Cell::new(0);
-    let are_sized = match pair_of(alloc, &taken) {
-        Ok(pair) => have_three(&pair),
-        Err(_refused) => false,
-    };
-    are_sized & (taken.get() == 6)
+    let builder = BloomFilter::with_num_bits(alloc, 64)?;
+    let plain = builder.items(three_of(500, &taken));
+    let is_plain = (plain.num_hashes() == 1) & (plain.as_slice() == [THREE].as_slice());
+    let builder = AtomicBloomFilter::with_num_bits(alloc, 64)?;
+    let shared = builder.items(alloc, three_of(500, &taken))?;
+    Ok(is_plain & (shared.num_hashes() == 1) & shared.iter().eq([THREE]) & (taken.get() == 6))
 }
 
 // Whether a size for 2^64 - 1 items at a half is refused, and no item is taken.
@@ -101,6 +78,6 @@ fn refuses_by_what_is_said(alloc: Global) -> Result<bool, FilterError> {
 
 #[test]
 fn what_an_iterator_says_sizes_alone(rt: HostRuntime) {
-    assert!(rt; are_sized(rt.alloc()));
+    assert!(rt; matches!(are_sized(rt.alloc()), Ok(true)));
     assert!(rt; matches!(refuses_by_what_is_said(rt.alloc()), Ok(true)));
 }

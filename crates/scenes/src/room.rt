@@ -1,91 +1,65 @@
-//! Calls that take memory and are no lines of a scene: how each ends where a request for memory is
-//! refused, and what it leaves. Each test prints its calls and how they ended, which dev/starve
-//! compares.
+//! Calls that take memory and are no lines of a scripted test: how each ends where a request for
+//! memory is refused, and what it leaves. Each test prints its calls and how they ended, which
+//! dev/starve compares.
 
 mod calls;
-mod parts;
 mod seated;
 mod without_memory;
 
 use crate::fills::{THREE, Watching, gate_of, parts_of};
-use crate::telling::{NO_ROOM, say, word_of};
+use crate::rotating::is_made;
+use crate::telling::{NO_ROOM, WRONG, say, word_of};
 use bloom_parts::bit_vector::{AtomicBitVec, BitVec};
 use fastbloom::{
-    AtomicBlockedBloomFilter, BlockedBloomFilter, BloomFilter, Call, Event, FilterError,
-    GrowingError, GrowingFilter, Rate, Shape, Trace, fill, run,
+    AtomicBlockedBloomFilter, BlockedBloomFilter, Call, Event, FilterError, GrowingError,
+    GrowingFilter, Rate, Shape, fill, run,
 };
-use seated::{closed, opened};
+use seated::closed;
 use std::alloc::Global;
 use std::sync::Arc;
 use std::thread::Threads;
 
-// How a call ended, with the builders' refusal, or with one that no lack of memory brings.
-fn by_builders(ended: Result<bool, GrowingError>) -> Result<bool, FilterError> {
+// How a call ended that has the builders' refusals. No lack of memory brings the others.
+fn word_of_growing(ended: Result<bool, GrowingError>) -> &'static str {
     match ended {
-        Ok(is_right) => Ok(is_right),
-        Err(GrowingError::Filter(refusal)) => Err(refusal),
-        Err(GrowingError::RateOverflow) => Err(FilterError::SizeOverflow),
-        Err(GrowingError::TooManyItems) => Err(FilterError::SizeOverflow),
+        Ok(is_right) => word_of(&Ok(is_right)),
+        Err(GrowingError::Filter(refusal)) => word_of(&Err(refusal)),
+        Err(GrowingError::RateOverflow) => WRONG,
+        Err(GrowingError::TooManyItems) => WRONG,
     }
 }
 
-// A filter for one item.
-fn for_one(alloc: Global) -> Result<GrowingFilter, GrowingError> {
-    GrowingFilter::new(alloc, Rate::new(4, 1)?, 1)
+// Whether a filter for one item takes two hashes, the second into its second filter.
+fn takes_two(alloc: Global, filter: &mut GrowingFilter) -> Result<bool, GrowingError> {
+    let first = filter.insert_hash(alloc, 1)?;
+    let second = filter.insert_hash(alloc, 2)?;
+    let are_found = filter.contains_hash(1) & filter.contains_hash(2);
+    Ok(!first & !second & are_found & (filter.older().len() == 1))
 }
 
-// Whether a filter for one item has its room.
-fn begun(alloc: Global) -> Result<bool, GrowingError> {
-    match for_one(alloc) {
-        Ok(filter) => Ok((filter.newest().num_bits() == 64) & (filter.room() == 1)),
+// The same, of a filter that is made.
+fn grows(alloc: Global) -> Result<bool, GrowingError> {
+    let rate = Rate::new(4, 1)?;
+    match GrowingFilter::new(alloc, rate, 1) {
+        Ok(mut filter) => takes_two(alloc, &mut filter),
         Err(refusal) => Err(refusal),
-    }
-}
-
-// A filter for one item that is full, with hash 1. The first insert takes no memory.
-fn full(alloc: Global) -> Result<GrowingFilter, GrowingError> {
-    let mut filter = for_one(alloc)?;
-    match filter.insert_hash(alloc, 1) {
-        Ok(_held) => Ok(filter),
-        Err(refusal) => Err(refusal),
-    }
-}
-
-// Whether a filter has this many full filters and this room, took one hash into its newest, and
-// contains hash 1.
-fn is_left(filter: &GrowingFilter, full: usize, room: usize) -> bool {
-    let filters = (filter.older().len() == full) & (filter.room() == room);
-    filters & (filter.taken() == 1) & filter.contains_hash(1)
-}
-
-// Whether a full filter takes hash 2 into a second filter, or stays as it was.
-fn grown(alloc: Global, filter: &mut GrowingFilter) -> Result<bool, GrowingError> {
-    match filter.insert_hash(alloc, 2) {
-        Ok(held) => Ok(!held & is_left(filter, 1, 2) & filter.contains_hash(2)),
-        Err(error) => {
-            if !is_left(filter, 0, 1) {
-                return Ok(false);
-            }
-            Err(error)
-        }
-    }
-}
-
-// How a full filter took one hash more.
-fn grows(alloc: Global) -> &'static str {
-    match full(alloc) {
-        Ok(mut filter) => word_of(&by_builders(grown(alloc, &mut filter))),
-        Err(_refusal) => NO_ROOM,
     }
 }
 
 #[test]
 fn a_filter_that_grows_is_whole_or_refused(rt: HostRuntime) {
-    let begun = by_builders(begun(rt.alloc()));
-    assert!(rt; say(&rt, "GrowingFilter::new", word_of(&begun)));
-    assert!(rt; say(&rt, "insert_hash that grows", grows(rt.alloc())));
-    let rotating = by_builders(crate::rotating::is_made(rt.alloc()));
-    assert!(rt; say(&rt, "RotatingFilter::new", word_of(&rotating)));
+    assert!(rt; say(&rt, "GrowingFilter", word_of_growing(grows(rt.alloc()))));
+}
+
+#[test]
+fn a_filter_that_rotates_is_whole_or_refused(rt: HostRuntime) {
+    assert!(rt;
+        say(
+            &rt,
+            "RotatingFilter::new",
+            word_of_growing(is_made(rt.alloc()))
+        )
+    );
 }
 
 // A line that threads share, with hash 1.
@@ -120,30 +94,17 @@ fn a_take_of_lines_is_whole_or_refused(rt: HostRuntime) {
     assert!(rt; say(&rt, "blocked take_words", ended));
 }
 
-// A filter that stands by.
-fn standing(alloc: Global) -> Result<BloomFilter, FilterError> {
-    let words = [5, 6].to_vec(alloc)?;
-    Ok(BloomFilter::from_vec(words)?.hashes(3))
-}
-
-fn plain_words(alloc: Global) -> Result<bool, FilterError> {
+// Whether plain and shared words are those that were given.
+fn are_words(alloc: Global) -> Result<bool, FilterError> {
     let words = [7u64, 8, 9];
-    match BitVec::from_words(alloc, words.iter().copied()) {
-        Ok(bits) => Ok(bits.as_slice() == words.as_slice()),
-        Err(refusal) => Err(refusal),
-    }
-}
-
-fn shared_words(alloc: Global) -> Result<bool, FilterError> {
-    let words = [7u64, 8, 9];
-    match AtomicBitVec::from_words(alloc, words.iter().copied()) {
-        Ok(bits) => Ok(bits.iter().eq(words.iter().copied())),
-        Err(refusal) => Err(refusal),
-    }
+    let plain = BitVec::from_words(alloc, words.iter().copied())?;
+    let is_plain = plain.as_slice() == words.as_slice();
+    let shared = AtomicBitVec::from_words(alloc, words.iter().copied())?;
+    Ok(is_plain & shared.iter().eq(words.iter().copied()))
 }
 
 // Two inserts of one hash, whose positions are 0 and 20.
-const INSERTS: [Event; 6] = [
+const INSERTS: &'static [Event] = &[
     Event::Begin {
         party: 0,
         call: Call::Insert(1),
@@ -158,57 +119,25 @@ const INSERTS: [Event; 6] = [
     Event::Go { party: 0, given: 0 },
 ];
 
-// The same, lent.
-fn inserts() -> &'static [Event] {
-    &INSERTS
-}
-
 // Whether a run of them is whole.
-fn is_course(trace: &Trace) -> bool {
-    (trace.words() == [1048577].as_slice()) & (trace.records().len() == 6)
-}
-
-fn course(alloc: Global) -> Result<bool, FilterError> {
-    match run(alloc, &[0], 2, 2, inserts()) {
-        Ok(trace) => Ok(is_course(&trace)),
+fn is_run(alloc: Global) -> Result<bool, FilterError> {
+    match run(alloc, &[0], 2, 2, INSERTS) {
+        Ok(trace) => Ok((trace.words() == [1048577].as_slice()) & (trace.records().len() == 6)),
         Err(refusal) => Err(refusal),
     }
 }
 
-// Whether the filter that stands by is as it was.
-fn stands(filter: &BloomFilter) -> bool {
-    (filter.as_slice() == [5, 6].as_slice()) & (filter.num_hashes() == 3)
-}
-
-// Prints how words and a run ended, beside a filter that stays as it was.
-fn say_words(rt: &HostRuntime, filter: &BloomFilter) -> bool {
-    let plain = say(rt, "from_words", word_of(&plain_words(rt.alloc())));
-    let shared = say(rt, "shared from_words", word_of(&shared_words(rt.alloc())));
-    let course = say(rt, "run", word_of(&course(rt.alloc())));
-    plain & shared & course & stands(filter)
-}
-
 #[test]
 fn words_and_a_run_are_whole_or_refused(rt: HostRuntime) {
-    let is_said = match standing(rt.alloc()) {
-        Ok(filter) => say_words(&rt, &filter),
-        Err(_refusal) => say(&rt, "from_words", NO_ROOM),
-    };
-    assert!(rt; is_said);
-}
-
-// Prints how a seated filter ended, beside a filter that stays as it was.
-fn say_seated(rt: &HostRuntime, filter: &BloomFilter) -> bool {
-    let new = say(rt, "seated new", word_of(&opened(rt.alloc())));
-    let close = say(rt, "seated close", closed(rt.alloc()).unwrap_or(NO_ROOM));
-    new & close & stands(filter)
+    assert!(rt; say(&rt, "from_words", word_of(&are_words(rt.alloc()))));
+    assert!(rt; say(&rt, "run", word_of(&is_run(rt.alloc()))));
 }
 
 #[test]
 fn a_seated_filter_is_whole_or_refused(rt: HostRuntime) {
-    let is_said = match standing(rt.alloc()) {
-        Ok(filter) => say_seated(&rt, &filter),
-        Err(_refusal) => say(&rt, "seated new", NO_ROOM),
+    let is_said = match closed(rt.alloc()) {
+        Ok(ended) => say(&rt, "seated new", "whole") & say(&rt, "seated close", ended),
+        Err(refusal) => say(&rt, "seated new", word_of(&Err(refusal))),
     };
     assert!(rt; is_said);
 }

@@ -1,31 +1,23 @@
 //! The tables of scenes. Their values come from the definitions, by hand or by a model in Python.
 use crate::scene::Op::{Cross, Extend, Finds};
-use crate::scene::{Line, Scene};
+use crate::scene::Size::{Expected, Hashes};
+use crate::scene::{Line, Make, Scene};
+use fastbloom::FilterError;
 
-mod builders;
 mod by_hash;
 mod items;
-mod sessions;
 mod sets;
-
-pub(crate) use builders::refusals;
 
 /// Every scene, by tables. A check takes longer for one long table than for two of half its length,
 /// so each table is of one subject.
-pub(crate) fn all() -> [&'static [Scene]; 12] {
+pub(crate) fn all() -> [&'static [Scene]; 6] {
     [
-        by_hash::hashes(),
-        by_hash::calls(),
-        by_hash::estimates(),
-        sets::meetings(),
-        sets::copies(),
-        sets::comparisons(),
-        builders::scenes(),
-        items::items(),
-        items::many(),
-        items::by_builders(),
-        sessions::first(),
-        sessions::others(),
+        by_hash::HASHES,
+        by_hash::CALLS,
+        sets::MEETINGS,
+        sets::COMPARISONS,
+        items::ITEMS,
+        items::MANY,
     ]
 }
 
@@ -33,14 +25,39 @@ pub(crate) fn all() -> [&'static [Scene]; 12] {
 pub(crate) const CROSSED: &'static [Line] = &[
     (Extend(0, 101), true),
     (Finds(0, 101), true),
-    (Extend(200, 210), true),
     (Cross(false), true),
-    (Finds(0, 101), true),
-    (Extend(210, 230), true),
-    (Finds(200, 230), true),
+    (Extend(200, 230), true),
     (Cross(true), true),
     (Finds(0, 101), true),
     (Extend(230, 250), true),
     (Finds(200, 250), true),
     (Cross(false), true),
+];
+
+// Items at one in two.
+macro_rules! at_half {
+    ($items:expr) => {
+        Make::Rate(1, 2, 0, Expected($items))
+    };
+}
+
+/// What is asked for, and why both filters are refused: no bits, more than 2^58 - 1 words, and
+/// 2^61 - 8 bytes, which no machine has. Of the last three sizes the first is 2^64 - 8 bits, and
+/// for one item more it is 2^64.
+pub(crate) const REFUSALS: &'static [(Make, FilterError)] = &[
+    (Make::Bits(0, Hashes(1)), FilterError::ZeroBits),
+    (
+        Make::Bits(18446744073709551553, Hashes(1)),
+        FilterError::TooManyWords,
+    ),
+    (
+        Make::Bits(18446744073709551552, Hashes(1)),
+        FilterError::Memory,
+    ),
+    (Make::Words(&[], 0, Hashes(1)), FilterError::EmptyWords),
+    (Make::Rate(0, 5, 0, Expected(1)), FilterError::ZeroRate),
+    (Make::Rate(5, 0, 0, Expected(1)), FilterError::ZeroRate),
+    (at_half!(12786308645202655226), FilterError::TooManyWords),
+    (at_half!(12786308645202655227), FilterError::SizeOverflow),
+    (at_half!(18446744073709551615), FilterError::SizeOverflow),
 ];

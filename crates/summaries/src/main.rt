@@ -1,4 +1,9 @@
 //! Filters of the keys of shards: builds them, unites them, asks them, and tells what they are.
+//!
+//! - `command_line`, `rates`: the arguments, by `clap`, and rates among them.
+//! - `tasks`: what each command does, by `summaries_engine`.
+//! - `key_files`, `form`: files of keys, and filters in files.
+//! - `telling`: what is told, and the statuses.
 #![tactic(auto)]
 
 mod command_line;

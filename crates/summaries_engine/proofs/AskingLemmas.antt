@@ -1,15 +1,17 @@
 -- Keys of one input that are asked for one after the other, with the answers written so far.
-use Rattle.std.proofs.Common.{◌≡◌, ℕ, ◌+◌, Bool, false, List, [], ◌∷◌, ◌++◌, filter, flat_map, Ok, Option, refl, sym, subst}
+use Rattle.std.proofs.Common.{◌≡◌, ℕ, ◌+◌, Bool, false, List, [], ◌∷◌, ◌++◌, filter, flat_map, Ok, Err, Option, refl, sym, subst}
 use Rattle.std.proofs.lemmas.Grind.{flat_map-append}
 use Rattle.std.proofs.lemmas.List.Elements.{filter-append}
-use Rattle.std.proofs.KnownBytes.{Appends-nil, Appends-trans}
+use Rattle.std.proofs.KnownBytes.{Appends-kept, Appends-nil, Appends-trans}
 use Rattle.std.proofs.Common.{◌∙◌, ap, length}
-use Rattle.std.specs.Prelude.{IfOk, Result}
-use Rattle.std.specs.Io.KnownBytes.{Appends}
+use Rattle.std.specs.Prelude.{IfOk, OnOk, Result}
+use Rattle.std.specs.Io.KnownBytes.{Appends, Keeps}
 use Rattle.summaries_engine.specs.declared.kinds.AnyFilter.{AnyFilter}
 use Rattle.summaries_engine.specs.Kinds.{has_hash}
 use Rattle.lines.specs.Reading.{Waiting, Ends, KnowsEnd, TakesShortBy, left_of}
+use Rattle.lines.specs.Writing.{AppendsPart}
 use Rattle.lines.proofs.TakenLemmas.{IsReadWhole-from}
+use Rattle.lines.proofs.WritingLemmas.{Begins-whole}
 use Rattle.summaries_engine.specs.declared.answers.Told.{Told}
 use Rattle.summaries_engine.specs.Answers.{AnswersAll, is_told, told_text}
 use Rattle.summaries_engine.specs.Summaries.{hash_in}
@@ -23,6 +25,15 @@ told_text-append f told end keys more =
     let line : List ℕ → List ℕ = λ k. k ++ end ∷ [] in
     ap (flat_map line) (filter-append tells keys more)
     ∙ flat_map-append line (filter tells keys) (filter tells more)
+
+-- a text that was written whole is a beginning of itself
+pub part-whole : (text : List ℕ) (from to : Option (List ℕ)) → Appends from to text
+    → AppendsPart text from to
+part-whole text from to wrote = record {
+  written = text;
+  appended = wrote;
+  begins = Begins-whole text text refl;
+}
 
 -- the keys so far were answered
 pub record IsAnswering (f : AnyFilter) (told : Told) (end : ℕ) (read : Option (List ℕ))
@@ -65,6 +76,23 @@ answering-next {f = f} {told = told} {end = end} {read = read} {left = left} {re
           (sym (told_text-append f told end keys (new.line ∷ [])))
           (Appends-trans from to more _ _ so_far.text
           (subst (λ k. Appends to more (told_text f told end (k ∷ []))) line wrote));
+    }
+
+-- what holds holds where a result is Ok
+pub on-ok : {X E : Type 0} (result : Result X E) (P : Type 0) → P → OnOk result P
+on-ok (Ok x) P holds = holds
+on-ok (Err e) P holds = tt
+
+-- all keys were answered, and the answers flushed
+pub answering-flushed : {f : AnyFilter} {told : Told} {end : ℕ}
+    {read left from to more : Option (List ℕ)} → AnswersAll f told end read left from to
+    → Keeps to more → AnswersAll f told end read left from more
+answering-flushed {f = f} {told = told} {end = end} {from = from} {to = to} {more = more} all kept =
+    record {
+      keys = all.keys;
+      whole = all.whole;
+      short = all.short;
+      text = Appends-kept from to more (told_text f told end all.keys) all.text kept;
     }
 
 -- all keys were answered

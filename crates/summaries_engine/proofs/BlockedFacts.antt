@@ -17,14 +17,13 @@ use Rattle.bloom_parts.specs.Sizing.{IsSizeFor}
 use Rattle.bloom_parts.specs.declared.error.FilterError.TheVariants.{Memory, SizeOverflow}
 use Rattle.bloom_parts.specs.declared.math.rate.Rate.{Rate}
 use Rattle.bloom_parts.proofs.PublishedLemmas.{content-zeros}
-use Rattle.bloom_plain.specs.declared.file.layout.Layout.TheVariants.{Whole, Lines}
-use Rattle.bloom_plain.specs.FileLayouts.{refusal_in}
+use Rattle.bloom_files.specs.declared.layout.Layout.TheVariants.{Whole, Lines}
+use Rattle.bloom_files.specs.FileLayouts.{refusal_in}
 use Rattle.bloom_plain.proofs.CaseLemmas.{content-case, content-past}
-use Rattle.fastbloom.specs.BlockedFile.{IsLineFileOf, line_file_of}
 use Rattle.fastbloom.specs.BlockedSizing.{hashes_in_lines, line_size_refusal}
 use Rattle.fastbloom.specs.Builders.{RefusesAs}
 use Rattle.fastbloom.specs.Data.{DefaultFilter}
-use Rattle.fastbloom.specs.File.{IsFileOf, file_of}
+use Rattle.fastbloom.specs.FilterFiles.{IsFileOf, file_of}
 use Rattle.fastbloom.specs.Lines.{LineRangeLaw, line_positions}
 use Rattle.fastbloom.specs.Many.{positions_of_all}
 use Rattle.fastbloom.specs.declared.parallel.shape.Shape.{Shape}
@@ -94,17 +93,17 @@ unfolding content are_in chain
 has-classic = refl
 
 -- the file of a blocked filter is one of lines
-file-blocked : (f : DefaultFilter) → file_of_kind (Blocked f) ≡ line_file_of f
+file-blocked : (f : DefaultFilter) → file_of_kind (Blocked f) ≡ file_of Lines f
 file-blocked f = refl
 
-file-classic : (f : DefaultFilter) → file_of_kind (Classic f) ≡ file_of f
+file-classic : (f : DefaultFilter) → file_of_kind (Classic f) ≡ file_of Whole f
 file-classic f = refl
 
-is-file-blocked : (bytes : List ℕ) (f : DefaultFilter) → IsLineFileOf bytes f
+is-file-blocked : (bytes : List ℕ) (f : DefaultFilter) → IsFileOf Lines bytes f
     → IsFileOfKind bytes (Blocked f)
 is-file-blocked bytes f is = is
 
-is-file-classic : (bytes : List ℕ) (f : DefaultFilter) → (IsFileOf bytes f → ⊥)
+is-file-classic : (bytes : List ℕ) (f : DefaultFilter) → (IsFileOf Whole bytes f → ⊥)
     → IsFileOfKind bytes (Classic f) → ⊥
 is-file-classic bytes f other is = other is
 

@@ -7,8 +7,8 @@ use Rattle.std.specs.List.{Contains, list_any}
 use Rattle.bloom_parts.specs.Content.{content, AreWords}
 use Rattle.bloom_parts.specs.declared.hasher.CloneBuildHasher.{CloneBuildHasher}
 use Rattle.bloom_parts.specs.declared.hasher.sip.RandomDefaultHasher.{RandomDefaultHasher}
-use Rattle.bloom_plain.specs.declared.file.layout.Layout.{Layout}
-use Rattle.bloom_plain.specs.declared.file.layout.Layout.TheVariants.{Whole, Lines}
+use Rattle.bloom_files.specs.declared.layout.Layout.{Layout}
+use Rattle.bloom_files.specs.declared.layout.Layout.TheVariants.{Whole, Lines}
 use Rattle.fastbloom.specs.Fill.{AnyCuttingLaw, FilledContainsLaw, HaveSameHashes, hashes_of, positions_of_all, words_of}
 use Rattle.fastbloom.specs.Laws.{EqualContentLaw, EqualityLaw}
 use Rattle.fastbloom.specs.Lines.{LineSubsetLaw, are_in_line, line_positions}

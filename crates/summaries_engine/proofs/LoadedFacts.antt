@@ -6,9 +6,9 @@ use Rattle.std.specs.Fmt.Cut.{EndsInDots}
 use Rattle.anyhow.specs.Error.{HasMessage, error_message}
 use Rattle.anyhow.specs.declared.error.Error.{Error}
 use Rattle.summaries_engine.specs.declared.kinds.AnyFilter.{AnyFilter}
-use Rattle.bloom_plain.specs.declared.file.error.FileError.TheVariants.{Seal}
-use Rattle.bloom_plain.specs.FileLayouts.{refusal_in}
-use Rattle.bloom_plain.specs.FileRefusals.{number_at}
+use Rattle.bloom_files.specs.declared.error.FileError.TheVariants.{Seal}
+use Rattle.bloom_files.specs.FileLayouts.{refusal_in}
+use Rattle.bloom_files.specs.FileRefusals.{number_at}
 use Rattle.lines.specs.Writing.{Begins}
 use Rattle.summaries_engine.specs.declared.form.Form.TheVariants.{Sealed, Unsealed, Json}
 use Rattle.summaries_engine.specs.declared.stop.Stop.TheVariants.{Memory, Worker, Input, Bad, Output}

@@ -8,17 +8,17 @@ use Rattle.std.specs.Prelude.{nat_eq, nat_le, ◌&&◌, if◌then◌else◌, Boo
 use Rattle.std.specs.Io.KnownBytes.{Consumes, IsAtEnd}
 use Rattle.std.specs.List.{starts_with}
 use Rattle.bloom_parts.specs.Sip.{whole_words}
-use Rattle.bloom_plain.specs.declared.file.layout.Layout.{Layout}
-use Rattle.bloom_plain.specs.declared.file.layout.Layout.TheVariants.{Whole, Lines}
-use Rattle.bloom_plain.specs.FileLayouts.{numbers_in}
-use Rattle.fastbloom.specs.File.{bytes_of, head_numbers, head_of}
-use Rattle.bloom_plain.specs.FileRefusals.{number_at}
+use Rattle.bloom_files.specs.declared.layout.Layout.{Layout}
+use Rattle.bloom_files.specs.declared.layout.Layout.TheVariants.{Whole, Lines}
+use Rattle.bloom_files.specs.FileLayouts.{numbers_in}
+use Rattle.fastbloom.specs.File.{bytes_of, head_of}
+use Rattle.bloom_files.specs.FileRefusals.{number_at}
 use Rattle.lines.specs.Writing.{Begins}
 use Rattle.summaries_engine.specs.declared.form.Form.{Form}
 use Rattle.summaries_engine.specs.declared.form.Form.TheVariants.{Json}
 use Rattle.summaries_engine.specs.declared.kinds.AnyFilter.{AnyFilter}
 use Rattle.summaries_engine.specs.declared.kinds.AnyFilter.TheVariants.{Classic, Blocked}
-use Rattle.summaries_engine.specs.Kinds.{IsFileOfKind}
+use Rattle.summaries_engine.specs.Kinds.{IsFileOfKind, layout_of, parts_of}
 use Rattle.summaries_engine.specs.Loaded.{IsInForm, file_form, head_layout, layout_told, mark_bytes}
 
 -- a number of the first bytes is that of all bytes
@@ -40,15 +40,12 @@ number-first i (a ∷ b ∷ c ∷ d ∷ e ∷ f ∷ g ∷ []) more room = omega 
 -- a file of a filter has at least the 64 bytes of its head
 file-long : (bytes : List ℕ) (f : AnyFilter) → IsFileOfKind bytes f → 64 ≤ length bytes
 unfolding bytes_of
-file-long bytes (Classic f) file =
-    let size : length bytes ≡ 64 + length (bytes_of f.words) =
-    ap length file.is
-    ∙ length-append (bytes_of (head_numbers (head_of f) file.seal)) (bytes_of f.words) in
-    omega (arith, size)
-file-long bytes (Blocked f) file =
-    let size : length bytes ≡ 64 + length (bytes_of f.words) =
-    ap length file.parts.is
-    ∙ length-append (bytes_of (numbers_in Lines (head_of f) file.parts.seal)) (bytes_of f.words) in
+file-long bytes f file =
+    let head : List ℕ =
+    bytes_of (numbers_in (layout_of f) (head_of (parts_of f)) file.parts.seal) in
+    let words : List ℕ = bytes_of (parts_of f).words in
+    let size : length bytes ≡ 64 + length words =
+    ap length file.parts.is ∙ length-append head words in
     omega (arith, size)
 
 -- a file of a filter is in the form that its seal tells

@@ -5,7 +5,7 @@ use Rattle.std.specs.Prelude.{map}
 use Rattle.std.specs.Simd.{first_chunks}
 use Rattle.std.specs.Int.{w64, from_le_bytes}
 use Rattle.bloom_parts.specs.Sip.{whole_words}
-use Rattle.bloom_plain.specs.FileRefusals.{number_at}
+use Rattle.bloom_files.specs.FileRefusals.{number_at}
 
 -- the numbers of bytes are those of their chunks of eight
 numbers-chunks : (bytes : List ℕ)

@@ -1,6 +1,8 @@
 -- Keys of one input that weren't taken to their end.
 use Rattle.std.proofs.Common.{◌≡◌, inl, inr, ℕ, ◌-◌, ◌^◌, ◌≤◌, codes, List, [], ◌∷◌, ◌++◌, length, Option, Some, None, refl, sym, subst, ◌∙◌}
 use Rattle.std.proofs.lemmas.List.Elements.{All-nil}
+use Rattle.std.proofs.KnownBytes.{Appends-kept}
+use Rattle.std.specs.Io.KnownBytes.{Keeps}
 use Rattle.summaries_engine.specs.declared.kinds.AnyFilter.{AnyFilter}
 use Rattle.lines.specs.Lines.{lines_by}
 use Rattle.lines.specs.Reading.{Waiting, KnowsEnd, TakesLongBy, TakesShortBy, IsReadFromBy, left_of}
@@ -12,8 +14,8 @@ use Rattle.summaries_engine.specs.declared.stop.Stop.{Stop}
 use Rattle.summaries_engine.specs.declared.stop.Stop.TheVariants.{Memory}
 use Rattle.summaries_engine.specs.Answers.{told_text}
 use Rattle.summaries_engine.specs.Refusals.{too_long_text}
-use Rattle.summaries_engine.specs.Stops.{IsBad, IsReasonAfter, IsUnreadable, IsUnwritten, Says, StopsAfter, StopsAnswers, StopsHashing}
-use Rattle.summaries_engine.proofs.AskingLemmas.{IsAnswering, told_text-append}
+use Rattle.summaries_engine.specs.Stops.{IsBad, IsReasonAfter, IsUnreadable, IsUnwritten, Says, StopsAfter, StopsAnswers, StopsHashing, StopsWriting}
+use Rattle.summaries_engine.proofs.AskingLemmas.{IsAnswering, part-whole, told_text-append}
 use Rattle.summaries_engine.proofs.KeyLemmas.{IsHashing, read-next}
 
 -- no line is the first of none
@@ -94,6 +96,21 @@ pub hashing-room : {end : ℕ} {name : List ℕ} {read left : Option (List ℕ)}
     {number : ℕ} {began hashes : List ℕ} → IsHashing end read reader left number began hashes
     → StopsHashing end name read Memory
 hashing-room so_far = hashing-stops so_far (why-read (inl tt))
+
+-- the answers so far were written, and a flush of them failed
+pub asking-unflushed : {f : AnyFilter} {told : Told} {end : ℕ}
+    {read left from to more : Option (List ℕ)} {reader : Waiting} {number : ℕ} {stop : Stop}
+    → IsAnswering f told end read reader left number from to → Keeps to more → IsUnwritten stop
+    → StopsWriting f told end [] read from more stop
+asking-unflushed {f = f} {told = told} {end = end} {read = read} {left = left} {from = from}
+    {to = to} {more = more} {reader = reader} so_far kept says =
+    let text = told_text f told end so_far.keys in record {
+      keys = so_far.keys;
+      first = IsReadFrom-taken end read (left_of reader left) so_far.keys so_far.has_read.taken;
+      short = so_far.has_read.short;
+      part = part-whole text from more (Appends-kept from to more text so_far.text kept);
+      says = says;
+    }
 
 -- a write failed within the answer to the next key
 pub asking-cut : {f : AnyFilter} {told : Told} {end : ℕ} {name : List ℕ}

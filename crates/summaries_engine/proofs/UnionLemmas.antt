@@ -63,7 +63,7 @@ module _ (shape : Shape) (made : AnyFilter) where
   abbrev on_of : List (List ℕ) → ℕ → Bool
   on_of keys p = positions_in (layout_of made) shape (map (hash_in made) keys) p
 
-  -- the union of summaries has on the positions of all keys
+  -- in the union of summaries the positions of all keys are set
   on-joined : (parts : List (List (List ℕ))) (filters : List AnyFilter)
       → AreSummariesOf shape parts filters → All (HaveSameKind made) filters
       → All (HaveSameKey made) filters → (p : ℕ)

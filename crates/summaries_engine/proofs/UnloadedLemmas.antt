@@ -6,10 +6,10 @@ use Rattle.std.specs.List.{starts_with}
 use Rattle.std.specs.Prelude.{nat_eq}
 use Rattle.anyhow.specs.Error.{HasMessage}
 use Rattle.anyhow.specs.declared.error.Error.{Error}
-use Rattle.bloom_plain.specs.declared.file.error.FileError.{FileError}
-use Rattle.bloom_plain.specs.declared.file.error.FileError.TheVariants as file_error
-use Rattle.bloom_plain.specs.declared.file.layout.Layout.{Layout}
-use Rattle.bloom_plain.specs.FileLayouts.{IsReadIn, refusal_in}
+use Rattle.bloom_files.specs.declared.error.FileError.{FileError}
+use Rattle.bloom_files.specs.declared.error.FileError.TheVariants as file_error
+use Rattle.bloom_files.specs.declared.layout.Layout.{Layout}
+use Rattle.bloom_files.specs.FileLayouts.{IsReadIn, refusal_in}
 use Rattle.summaries_engine.specs.declared.form.Form.{Form}
 use Rattle.summaries_engine.specs.declared.kinds.AnyFilter.{AnyFilter}
 use Rattle.summaries_engine.specs.declared.stop.Stop.{Stop}

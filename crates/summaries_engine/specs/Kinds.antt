@@ -1,13 +1,12 @@
 -- Filters of either kind. A Bloom filter and a blocked one have the same parts: words, a number of
 -- hashes and a hasher. The kinds differ in where the positions of a hash lie. This project's own.
 use Rattle.std.specs.Prelude.{◌≡◌, ℕ, Bool, List}
-use Rattle.bloom_plain.specs.declared.file.layout.Layout.{Layout}
-use Rattle.bloom_plain.specs.declared.file.layout.Layout.TheVariants.{Whole, Lines}
+use Rattle.bloom_files.specs.declared.layout.Layout.{Layout}
+use Rattle.bloom_files.specs.declared.layout.Layout.TheVariants.{Whole, Lines}
 use Rattle.fastbloom.specs.Blocked.{contains_in_line}
-use Rattle.fastbloom.specs.BlockedFile.{IsLineFileOf, line_file_of}
 use Rattle.fastbloom.specs.Data.{DefaultFilter}
-use Rattle.fastbloom.specs.File.{IsFileOf, file_of}
 use Rattle.fastbloom.specs.Filter.{SameShape, Unites, contains}
+use Rattle.fastbloom.specs.FilterFiles.{IsFileOf, file_of}
 use Rattle.summaries_engine.specs.declared.kinds.AnyFilter.{AnyFilter}
 use Rattle.summaries_engine.specs.declared.kinds.AnyFilter.TheVariants.{Classic, Blocked}
 
@@ -28,13 +27,11 @@ has_hash (Blocked f) hash = contains_in_line f hash
 
 -- the file of a filter, which is sealed
 abbrev pub file_of_kind : AnyFilter → List ℕ
-file_of_kind (Classic f) = file_of f
-file_of_kind (Blocked f) = line_file_of f
+file_of_kind f = file_of (layout_of f) (parts_of f)
 
 -- the bytes are a file of the filter, with the right seal or none
 abbrev pub IsFileOfKind : List ℕ → AnyFilter → Type 0
-IsFileOfKind bytes (Classic f) = IsFileOf bytes f
-IsFileOfKind bytes (Blocked f) = IsLineFileOf bytes f
+IsFileOfKind bytes f = IsFileOf (layout_of f) bytes (parts_of f)
 
 -- two filters are of one kind
 abbrev pub HaveSameKind : AnyFilter → AnyFilter → Type 0

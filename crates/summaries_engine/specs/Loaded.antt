@@ -5,12 +5,12 @@ use Rattle.std.specs.declared.io.ErrorKind.{ErrorKind}
 use Rattle.std.specs.declared.io.ErrorKind.TheVariants.{InvalidData}
 use Rattle.anyhow.specs.Error.{HasMessage}
 use Rattle.anyhow.specs.declared.error.Error.{Error}
-use Rattle.bloom_plain.specs.declared.file.error.FileError.{FileError}
-use Rattle.bloom_plain.specs.declared.file.error.FileError.TheVariants as file_error
-use Rattle.bloom_plain.specs.declared.file.layout.Layout.{Layout}
-use Rattle.bloom_plain.specs.declared.file.layout.Layout.TheVariants.{Whole, Lines}
-use Rattle.bloom_plain.specs.FileLayouts.{refusal_in}
-use Rattle.bloom_plain.specs.FileRefusals.{number_at}
+use Rattle.bloom_files.specs.declared.error.FileError.{FileError}
+use Rattle.bloom_files.specs.declared.error.FileError.TheVariants as file_error
+use Rattle.bloom_files.specs.declared.layout.Layout.{Layout}
+use Rattle.bloom_files.specs.declared.layout.Layout.TheVariants.{Whole, Lines}
+use Rattle.bloom_files.specs.FileLayouts.{refusal_in}
+use Rattle.bloom_files.specs.FileRefusals.{number_at}
 use Rattle.lines.specs.Writing.{Begins}
 use Rattle.summaries_engine.specs.declared.form.Form.{Form}
 use Rattle.summaries_engine.specs.declared.form.Form.TheVariants.{Sealed, Unsealed, Json}

@@ -1,6 +1,6 @@
 //! Which keys of inputs a filter contains, and which it doesn't.
 ghost use Rattle.std.specs.Prelude.{◌≡◌, ◌∷◌, [], map, IfErr, OnErr, OnOk};
-ghost use Rattle.std.specs.Io.KnownBytes.{Appends};
+ghost use Rattle.std.specs.Io.KnownBytes.{Appends, Keeps};
 ghost use Rattle.lines.specs.Writing.{AppendsPart};
 ghost use Rattle.summaries_engine.specs.Answers.{IsKeyed, AnswersAll, is_told, told_text};
 ghost use Rattle.summaries_engine.specs.Inputs.{AnswersInputs, StopsAsking};
@@ -9,7 +9,7 @@ ghost use Rattle.summaries_engine.specs.Stops.{IsUnwritten, StopsAnswers};
 use crate::inputs::Inputs;
 use crate::keys::{LONGEST, hash_of, too_long, too_many, unread};
 use crate::kinds::AnyFilter;
-use crate::stop::{Stop, cause};
+use crate::stop::{Stop, cause, written};
 use lines::{LineReaderBy, Next, put_line_by};
 use std::alloc::Global;
 use std::io::{Read, Write};
@@ -33,8 +33,16 @@ fn is_told(told: Told, is_contained: bool) -> bool
     }
 }
 
+// Flushes what was written.
+fn flush<O: Write>(output: &mut O) -> Result<(), Stop>
+    ensures kept { Keeps (O.contents output.old) (O.contents output.new) }
+    ensures failed { IfErr result IsUnwritten }
+{
+    written(output.flush(), "the keys can't be written")
+}
+
 // Writes a key if it is told.
-fn answer_key<const END: u8, O: Write>(
+fn write_told<const END: u8, O: Write>(
     filter: &AnyFilter,
     told: Told,
     key: &[u8],
@@ -54,6 +62,28 @@ fn answer_key<const END: u8, O: Write>(
         Ok(()) => Ok(()),
         Err(error) => Err(Stop::Output(cause(&error).context("the keys can't be written"))),
     }
+}
+
+// Writes a key if it is told, and flushes where the next read may wait.
+fn answer_key<const END: u8, O: Write>(
+    filter: &AnyFilter,
+    told: Told,
+    key: &[u8],
+    waits: bool,
+    output: &mut O,
+) -> Result<(), Stop>
+    requires { IsKeyed filter.now }
+    ensures wrote { OnOk result (Appends (O.contents output.old) (O.contents output.new)
+        (told_text filter.now told END (key.now ∷ []))) }
+    ensures failed { IfErr result IsUnwritten }
+    ensures part { OnErr result (AppendsPart (told_text filter.now told END (key.now ∷ []))
+        (O.contents output.old) (O.contents output.new)) }
+{
+    write_told::<END, O>(filter, told, key, output)?;
+    if waits {
+        return flush(output);
+    }
+    Ok(())
 }
 
 // Writes those keys of one input that `told` chooses.
@@ -76,18 +106,19 @@ fn ask_input<const END: u8, I: Read, O: Write>(
     };
     'keys: for number in 0..u64::MAX {
         match lines.next_line(input) {
-            Ok(Next::End) => return Ok(()),
+            Ok(Next::End) => return flush(output),
             Ok(Next::Line) => {}
             Ok(Next::TooLong) => return Err(too_long(name, number)),
             Err(error) => return Err(unread(name, error)),
         }
-        answer_key::<END, O>(filter, told, lines.line(), output)?;
+        answer_key::<END, O>(filter, told, lines.line(), !lines.has_next(), output)?;
     }
     Err(too_many(name))
 }
 
 /// Writes the keys of these inputs that `told` chooses, in order, and nothing else. The byte `END`
-/// ends a key, read or written, and so does the end of an input.
+/// ends a key, read or written, and so does the end of an input. What was written is flushed before
+/// each read or open that may wait, and behind the last key.
 ///
 /// # Errors
 /// At the first input that can't be had or read, or has a key that is too long, where a write

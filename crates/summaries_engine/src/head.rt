@@ -1,6 +1,6 @@
 //! What the head of a file of the form tells.
 ghost use Rattle.std.specs.Prelude.{◌≡◌, Some};
-ghost use Rattle.bloom_plain.specs.FileRefusals.{number_at};
+ghost use Rattle.bloom_files.specs.FileRefusals.{number_at};
 ghost use Rattle.summaries_engine.specs.Loaded.{file_form, head_layout};
 
 use crate::form::Form;

@@ -5,7 +5,7 @@ ghost use Rattle.bloom_parts.specs.Content.{AreWords};
 ghost use Rattle.lines.specs.Writing.{AppendsPart};
 ghost use Rattle.summaries_engine.specs.Kinds.{HaveSameKind, HaveSameShape, UnitesParts, file_of_kind, has_hash, parts_of};
 
-use fastbloom::{BlockedBloomFilter, BloomFilter, DefaultHasher};
+use fastbloom::{BlockedBloomFilter, BloomFilter, DefaultHasher, FilterFile};
 use std::io;
 use std::io::Write;
 

@@ -1,4 +1,15 @@
 //! Summaries of keys: filters of the keys of shards, their unions, and look-ups in them.
+//!
+//! - `keys`: keys, which are lines, and their hashes.
+//! - `summary`, `blocked`: the filter of all keys of some inputs, filled by workers, or blocked.
+//! - `kinds`: a filter of either kind.
+//! - `unions`, `shards`: the union of filters, also of those that have names.
+//! - `answers`: which keys may be in.
+//! - `loading`, `head`, `form`: the filter of a reader, what the head of its file tells, and how a
+//!   filter is written.
+//! - `sizes`, `facts`, `comparing`: the shape for some keys, and what is told of one filter or two.
+//! - `inputs`, `stop`: inputs that have names, and why a run stopped.
+//! - `laws`: unions of parts in any order, number and nesting.
 #![tactic(auto)]
 
 mod answers;

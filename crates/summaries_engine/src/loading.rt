@@ -2,9 +2,8 @@
 ghost use Rattle.std.specs.Prelude.{◌≡◌, ◌++◌, ◌<◌, ◌≤◌, IfErr, IfOk, IfSome, Some};
 ghost use Rattle.std.specs.IoError.{error_kind};
 ghost use Rattle.anyhow.specs.Error.{HasMessage};
-ghost use Rattle.bloom_plain.specs.declared.file.layout.Layout.TheVariants.{Whole, Lines};
-ghost use Rattle.fastbloom.specs.BlockedFile.{IsLineFileOf};
-ghost use Rattle.fastbloom.specs.File.{IsFileOf};
+ghost use Rattle.bloom_files.specs.declared.layout.Layout.TheVariants.{Whole, Lines};
+ghost use Rattle.fastbloom.specs.FilterFiles.{IsFileOf};
 ghost use Rattle.summaries_engine.specs.declared.kinds.AnyFilter.TheVariants.{Classic, Blocked};
 ghost use Rattle.summaries_engine.specs.Answers.{IsKeyed};
 ghost use Rattle.summaries_engine.specs.Kinds.{IsFileOfKind, parts_of};
@@ -18,7 +17,7 @@ use crate::kinds::AnyFilter;
 use crate::stop::Stop;
 use anyhow::anyhow;
 use fastbloom::file::Layout;
-use fastbloom::{BlockedBloomFilter, BloomFilter, FileError, FilterData};
+use fastbloom::{BlockedBloomFilter, BloomFilter, FileError, FilterData, FilterFile};
 use lines::read_full;
 use std::alloc::Global;
 use std::io;
@@ -64,7 +63,7 @@ fn load_classic<R: Read>(
 ) -> Result<BloomFilter, Stop>
     ensures keyed { IfOk result (λ filter. IsKeyed (Classic filter)) }
     ensures file { IfOk result (λ filter. IfSome (R.remaining input.old)
-        (λ rest. IsFileOf (start.now ++ rest) filter)) }
+        (λ rest. IsFileOf Whole (start.now ++ rest) filter)) }
     ensures failed { IfErr result (IsUnread name.now) }
     ensures right { IfErr result (λ stop. IfSome (R.remaining input.old)
         (λ rest. IsRightIn Whole (start.now ++ rest) name.now stop)) }
@@ -84,7 +83,7 @@ fn load_blocked<R: Read>(
 ) -> Result<BlockedBloomFilter, Stop>
     ensures keyed { IfOk result (λ filter. IsKeyed (Blocked filter)) }
     ensures file { IfOk result (λ filter. IfSome (R.remaining input.old)
-        (λ rest. IsLineFileOf (start.now ++ rest) filter)) }
+        (λ rest. IsFileOf Lines (start.now ++ rest) filter)) }
     ensures failed { IfErr result (IsUnread name.now) }
     ensures right { IfErr result (λ stop. IfSome (R.remaining input.old)
         (λ rest. IsRightIn Lines (start.now ++ rest) name.now stop)) }

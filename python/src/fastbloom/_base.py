@@ -9,7 +9,7 @@ from fractions import Fraction
 from typing import TYPE_CHECKING, Any, Callable, ClassVar, Generic, Iterable, TypeVar, Union
 
 from . import _library as library
-from ._checks import Estimate, check, hash_value, number_of_items, rate_parts
+from ._checks import Estimate, check, check_told, hash_value, number_of_items, rate_parts
 from ._items import Buffer, Item, Rate, bytes_of, check_many, plain_bytes
 from ._locks import alone, alone_with
 from ._many import Hashes, each_part, told, words_of
@@ -24,6 +24,20 @@ else:  # for typing.get_type_hints, also before Python 3.11
 Kind = TypeVar("Kind", bound="Base[Any]")  # the class of the filters that one takes in
 
 
+def bounds_of(call: Callable[..., Any]) -> tuple[Fraction, Fraction]:
+    """Two fractions of 2^63 that a call writes, which returns a reason or whether it did."""
+    low, high = ctypes.c_uint64(), ctypes.c_uint64()
+    check_told(call(low, high))
+    return Fraction(low.value, 2**63), Fraction(high.value, 2**63)
+
+
+def estimate_of(call: Callable[..., bool]) -> Estimate:
+    """The two bounds that a call writes. The greatest number stands for no upper bound."""
+    low, high = ctypes.c_size_t(), ctypes.c_size_t()
+    check_told(call(low, high))
+    return Estimate(low.value, None if high.value == 2**64 - 1 else high.value)
+
+
 class Base(Generic[Kind]):
     """What all kinds of filters have. `Filter` says what an item is."""
 
@@ -36,9 +50,6 @@ class Base(Generic[Kind]):
     _words_in: ClassVar[Any]  # the words in a view, as the calls take them
     _copy: Callable[[], Any]  # a plain filter with its words, as they are at one instant, or loaded
     _now: Callable[[], Any]  # itself, or a plain filter with its words as they are loaded
-    estimate: Callable[[], Estimate]
-    exact_false_positive_rate: Callable[[], tuple[Fraction, Fraction]]
-    _mean_rate: Callable[[int], Union[Fraction, float]]  # once it has so many items, or above it
     _view: memoryview
     _words: tuple[Any, ...]
     _num_hashes: int
@@ -210,27 +221,56 @@ class Base(Generic[Kind]):
         """How many of its bits are set."""
         return self._calls.count_ones(*self._words)
 
+    def exact_expected_false_positive_rate(self, items: int) -> tuple[Fraction, Fraction]:
+        """Two bounds of the mean rate of false positives once it has this many items.
+
+        The rate is the part of all draws of positions, those of the items and of a look-up, by
+        which each position of the look-up was drawn for an item; in a blocked filter each draws a
+        line first. The bounds are fractions of 2^63. Those of a blocked filter are computed by
+        floats, to a part of 10^12, and the others are proved. A number of items below 0, or of 2^64
+        and more, raises ValueError, and another type TypeError.
+        """
+        shape = self.num_words, self._num_hashes, number_of_items(items)
+        return bounds_of(lambda low, high: self._calls.rate_bounds(*shape, low, high))
+
+    def expected_false_positive_rate(self, items: int) -> tuple[float, float]:
+        """`exact_expected_false_positive_rate` as two floats, rounded outward."""
+        return rounded_outward(self.exact_expected_false_positive_rate(items))
+
     def capacity_for(self, rate: Rate) -> int:
         """How many items it takes at a mean rate of false positives, of its size as it is.
 
-        Of a filter that isn't blocked, it is the most at which the proved upper bound isn't above
-        the rate. Of a blocked one it is computed by a formula, and not proved. What is refused as a
-        rate raises as in the constructor.
+        With one item more, a bound of `exact_expected_false_positive_rate` is above the rate. What
+        is refused as a rate raises as in the constructor.
         """
-        wanted = Fraction(*rate_parts(rate))
-        low, high = 0, 1
-        while self._mean_rate(high) <= wanted:
-            low, high = high, 2 * high
-        while high - low > 1:
-            middle = (low + high) // 2
-            low, high = (middle, high) if self._mean_rate(middle) <= wanted else (low, middle)
-        return low
+        return self._calls.capacity(self.num_words, self._num_hashes, *rate_parts(rate))
+
+    @alone
+    def estimate(self) -> Estimate:
+        """Two bounds of the number of items in it. The upper one is None where all bits are set.
+
+        It is the number of items at which as many bits are expected to be set. Nothing is claimed
+        of how far the number of items that were added may lie from it. The bounds are proved; those
+        of a blocked filter are computed by floats instead.
+        """
+        shape = *self._words, self._num_hashes
+        return estimate_of(lambda low, high: self._calls.estimate(*shape, low, high))
 
     @property
     def approx_items(self) -> float:
         """About how many items are in it: the middle of `estimate`, or infinity."""
         low, high = self.estimate()
         return math.inf if high is None else (low + high) / 2
+
+    @alone
+    def exact_false_positive_rate(self) -> tuple[Fraction, Fraction]:
+        """Two bounds of the rate of false positives of the filter as it is.
+
+        It is the part of all look-ups that return True, where each position is drawn alike, and of
+        a blocked filter the line. The bounds are proved, and are fractions of 2^63.
+        """
+        shape = *self._words, self._num_hashes
+        return bounds_of(lambda low, high: self._calls.rate_now(*shape, low, high))
 
     def false_positive_rate(self) -> tuple[float, float]:
         """`exact_false_positive_rate` as two floats, rounded outward."""
@@ -261,6 +301,35 @@ class Base(Generic[Kind]):
     @alone_with
     def _with(self, other: Any, call: Callable[..., bool], *more: Any) -> bool:
         return call(*self._words, *other._words, *more)
+
+    def _with_now(self, other: Kind, call: Callable[..., bool], *to: Any) -> bool:
+        """Has a call write two bounds for this filter and another one, as they are."""
+        self._check_kind(other)
+        return bool(self._now()._with(other._now(), call, self._num_hashes, *to))
+
+    def estimated_union(self, other: Kind) -> Estimate:
+        """Two bounds of the number of items in the union, which isn't made: as `estimate`.
+
+        A filter of another size, number of hashes or key raises ValueError, and what is no filter
+        of this kind TypeError.
+        """
+        return estimate_of(lambda *to: self._with_now(other, self._calls.estimate_union, *to))
+
+    def estimated_common(self, other: Kind) -> Estimate:
+        """Two bounds of the number of items that both have in common.
+
+        It is what both have together, less what their union has, each as `estimate` tells it. The
+        upper bound is None where one of the two has none. It raises as `estimated_union`.
+        """
+        return estimate_of(lambda *to: self._with_now(other, self._calls.estimate_common, *to))
+
+    def jaccard(self, other: Kind) -> tuple[Fraction, Fraction]:
+        """Two bounds of the part of all items of both that they have in common, from 0 to 1.
+
+        It is the part of `estimated_common` in `estimated_union`. The bounds are fractions of 2^63:
+        0 and 1 where nothing is known, as of two empty filters. It raises as `estimated_union`.
+        """
+        return bounds_of(lambda *to: self._with_now(other, self._calls.jaccard, *to))
 
     def _change(self, other: Any, call: Callable[..., bool]) -> None:
         """Changes this filter by another one. Where they don't fit, it raises ValueError."""

@@ -62,6 +62,12 @@ def check(code: int) -> None:
         raise Refusal(code)
 
 
+def check_told(told: int) -> None:
+    """Raises what a call returned that writes bounds: a reason, or False for no words."""
+    if told is not True:
+        check(EMPTY_WORDS if told is False else told)
+
+
 def hash_value(value: int) -> int:
     value = operator.index(value)
     if not 0 <= value < 2**64:

@@ -96,12 +96,25 @@ class Calls:
         self.insert_hashes = of_kind("insert_hashes", _MANY, _SIZE)
         self.contains_hashes = of_kind("contains_hashes", _MANY, _SIZE, _MANY, _SIZE)
         self.insert_hashes_tell_new = of_kind("insert_hashes_tell_new", _MANY, _SIZE, _MANY, _SIZE)
+        self.rate_now = of_kind("rate_now", _MANY, _MANY)
         self.clear = call(f"{prefix}clear")
         self.union = call(f"{prefix}union", *words)
         self.intersect = call(f"{prefix}intersect", *words)
         self.count_ones: Callable[..., int] = _call(
             f"{prefix}count_ones", _SIZE, *words, library=library
         )
+        self.estimate = of_kind("estimate", _TO_SIZE, _TO_SIZE)
+        self.rate_bounds: Callable[..., int] = _call(
+            f"{kind}rate_bounds", _CODE, _SIZE, _HASHES, _SIZE, _MANY, _MANY
+        )
+        self.capacity: Callable[..., int] = _call(
+            f"{kind}capacity", _SIZE, _SIZE, _HASHES, _HASH, _HASH
+        )
+        # Of two filters that aren't shared.
+        two = _BOOL, _WORDS, _SIZE, _WORDS, _SIZE, _HASHES
+        self.estimate_union = _call(f"{kind}estimate_union", *two, _TO_SIZE, _TO_SIZE)
+        self.estimate_common = _call(f"{kind}estimate_common", *two, _TO_SIZE, _TO_SIZE)
+        self.jaccard = _call(f"{kind}jaccard", *two, _MANY, _MANY)
         self.plan: Callable[..., int] = _call(
             f"{kind}plan", _CODE, _HASH, _HASH, _SIZE, _TO_SIZE, _TO_HASHES
         )
@@ -134,16 +147,4 @@ shared_load: Callable[..., bool] = _call(
 )
 expected_rate: Callable[..., int] = _call(
     "expected_rate", _CODE, _SIZE, _HASHES, _SIZE, _MANY, _MANY
-)
-rate_bounds: Callable[..., int] = _call("rate_bounds", _CODE, _SIZE, _HASHES, _SIZE, _MANY, _MANY)
-rate_now: Callable[..., bool] = _call("rate_now", _BOOL, _WORDS, _SIZE, _HASHES, _MANY, _MANY)
-estimate: Callable[..., bool] = _call("estimate", _BOOL, _WORDS, _SIZE, _HASHES, _TO_SIZE, _TO_SIZE)
-estimate_union: Callable[..., bool] = _call(
-    "estimate_union", _BOOL, _WORDS, _SIZE, _WORDS, _SIZE, _HASHES, _TO_SIZE, _TO_SIZE
-)
-estimate_common: Callable[..., bool] = _call(
-    "estimate_common", _BOOL, _WORDS, _SIZE, _WORDS, _SIZE, _HASHES, _TO_SIZE, _TO_SIZE
-)
-jaccard: Callable[..., bool] = _call(
-    "jaccard", _BOOL, _WORDS, _SIZE, _WORDS, _SIZE, _HASHES, _MANY, _MANY
 )

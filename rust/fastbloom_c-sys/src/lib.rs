@@ -394,6 +394,87 @@ extern "C" {
         high: *mut u64,
     ) -> bool;
 
+    /// How many items a filter takes at the mean rate `num / den` of false positives: with one more
+    /// the upper bound of [`fastbloom_rate_bounds`] is above it. It is 0 where there are no words, or
+    /// too many, or a part of the rate is 0.
+    pub fn fastbloom_capacity(num_words: usize, num_hashes: u32, num: u64, den: u64) -> usize;
+
+    /// As [`fastbloom_rate_bounds`], of a blocked filter, in floating point: to a part of 10^-12, and
+    /// not proved.
+    #[must_use]
+    pub fn fastbloom_blocked_rate_bounds(
+        num_words: usize,
+        num_hashes: u32,
+        items: usize,
+        low: *mut u64,
+        high: *mut u64,
+    ) -> u8;
+
+    /// As [`fastbloom_capacity`], by [`fastbloom_blocked_rate_bounds`].
+    pub fn fastbloom_blocked_capacity(
+        num_words: usize,
+        num_hashes: u32,
+        num: u64,
+        den: u64,
+    ) -> usize;
+
+    /// As [`fastbloom_rate_now`], of a blocked filter: a look-up draws a line, and then positions.
+    /// Fewer than eight words are no filter.
+    #[must_use]
+    pub fn fastbloom_blocked_rate_now(
+        words: *const u64,
+        num_words: usize,
+        num_hashes: u32,
+        low: *mut u64,
+        high: *mut u64,
+    ) -> bool;
+
+    /// As [`fastbloom_estimate`], of a blocked filter, in floating point and not proved.
+    #[must_use]
+    pub fn fastbloom_blocked_estimate(
+        words: *const u64,
+        num_words: usize,
+        num_hashes: u32,
+        low: *mut usize,
+        high: *mut usize,
+    ) -> bool;
+
+    /// As [`fastbloom_estimate_union`], of blocked filters.
+    #[must_use]
+    pub fn fastbloom_blocked_estimate_union(
+        words: *const u64,
+        num_words: usize,
+        other: *const u64,
+        num_other: usize,
+        num_hashes: u32,
+        low: *mut usize,
+        high: *mut usize,
+    ) -> bool;
+
+    /// As [`fastbloom_estimate_common`], of blocked filters.
+    #[must_use]
+    pub fn fastbloom_blocked_estimate_common(
+        words: *const u64,
+        num_words: usize,
+        other: *const u64,
+        num_other: usize,
+        num_hashes: u32,
+        low: *mut usize,
+        high: *mut usize,
+    ) -> bool;
+
+    /// As [`fastbloom_jaccard`], of blocked filters.
+    #[must_use]
+    pub fn fastbloom_blocked_jaccard(
+        words: *const u64,
+        num_words: usize,
+        other: *const u64,
+        num_other: usize,
+        num_hashes: u32,
+        low: *mut u64,
+        high: *mut u64,
+    ) -> bool;
+
     /// As [`fastbloom_plan`], for a blocked filter, whose words are lines of eight.
     #[must_use]
     pub fn fastbloom_blocked_plan(
@@ -403,6 +484,11 @@ extern "C" {
         num_words: *mut usize,
         num_hashes: *mut u32,
     ) -> u8;
+
+    /// The line of a hash: the words from `8 * line` to `8 * line + 7`, which alone are a filter of
+    /// one line, in which the calls on this hash do what they do in all words. It is `usize::MAX`
+    /// for fewer than eight words.
+    pub fn fastbloom_blocked_line(num_words: usize, hash: u64) -> usize;
 
     /// Sets all positions of a hash in its line, and returns whether all were set just before. Words
     /// behind the last whole line stay as they are, and fewer than eight are no filter.
@@ -537,6 +623,42 @@ extern "C" {
         count: usize,
         fresh: *mut u64,
         num_fresh: usize,
+    ) -> bool;
+
+    /// As [`fastbloom_rate_now`], of the words as they are loaded, one after the other.
+    #[must_use]
+    pub fn fastbloom_shared_rate_now(
+        words: fastbloom_shared,
+        num_hashes: u32,
+        low: *mut u64,
+        high: *mut u64,
+    ) -> bool;
+
+    /// As [`fastbloom_estimate`], of the words as they are loaded, one after the other.
+    #[must_use]
+    pub fn fastbloom_shared_estimate(
+        words: fastbloom_shared,
+        num_hashes: u32,
+        low: *mut usize,
+        high: *mut usize,
+    ) -> bool;
+
+    /// As [`fastbloom_blocked_rate_now`], of the words as they are loaded, one after the other.
+    #[must_use]
+    pub fn fastbloom_blocked_shared_rate_now(
+        words: fastbloom_shared,
+        num_hashes: u32,
+        low: *mut u64,
+        high: *mut u64,
+    ) -> bool;
+
+    /// As [`fastbloom_blocked_estimate`], of the words as they are loaded, one after the other.
+    #[must_use]
+    pub fn fastbloom_blocked_shared_estimate(
+        words: fastbloom_shared,
+        num_hashes: u32,
+        low: *mut usize,
+        high: *mut usize,
     ) -> bool;
 
     /// Sets all positions of a hash, by one operation for each word of its line that has some, and

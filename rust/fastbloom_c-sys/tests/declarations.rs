@@ -228,15 +228,20 @@ macro_rules! linked {
 #[test]
 fn the_library_has_each_symbol() {
     let linked = linked! {
-        fastbloom_blocked_contains fastbloom_blocked_contains_hash fastbloom_blocked_contains_hashes
+        fastbloom_blocked_capacity fastbloom_blocked_contains fastbloom_blocked_contains_hash
+        fastbloom_blocked_contains_hashes fastbloom_blocked_estimate
+        fastbloom_blocked_estimate_common fastbloom_blocked_estimate_union
         fastbloom_blocked_head_read fastbloom_blocked_head_write fastbloom_blocked_insert
         fastbloom_blocked_insert_hash fastbloom_blocked_insert_hashes
-        fastbloom_blocked_insert_hashes_tell_new fastbloom_blocked_load fastbloom_blocked_map
-        fastbloom_blocked_plan fastbloom_blocked_save fastbloom_blocked_seal
+        fastbloom_blocked_insert_hashes_tell_new fastbloom_blocked_jaccard fastbloom_blocked_line
+        fastbloom_blocked_load fastbloom_blocked_map fastbloom_blocked_plan
+        fastbloom_blocked_rate_bounds fastbloom_blocked_rate_now fastbloom_blocked_save
+        fastbloom_blocked_seal
         fastbloom_blocked_shared_contains fastbloom_blocked_shared_contains_hash
-        fastbloom_blocked_shared_contains_hashes fastbloom_blocked_shared_insert
-        fastbloom_blocked_shared_insert_hash fastbloom_blocked_shared_insert_hashes
-        fastbloom_blocked_shared_insert_hashes_tell_new fastbloom_clear fastbloom_contains
+        fastbloom_blocked_shared_contains_hashes fastbloom_blocked_shared_estimate
+        fastbloom_blocked_shared_insert fastbloom_blocked_shared_insert_hash
+        fastbloom_blocked_shared_insert_hashes fastbloom_blocked_shared_insert_hashes_tell_new
+        fastbloom_blocked_shared_rate_now fastbloom_capacity fastbloom_clear fastbloom_contains
         fastbloom_contains_hash fastbloom_contains_hashes fastbloom_count_ones fastbloom_equal
         fastbloom_estimate fastbloom_estimate_common fastbloom_estimate_union
         fastbloom_expected_rate fastbloom_hash fastbloom_hash_items fastbloom_hasher_finish
@@ -246,8 +251,9 @@ fn the_library_has_each_symbol() {
         fastbloom_map fastbloom_num_bits fastbloom_plan fastbloom_rate_bounds fastbloom_rate_now
         fastbloom_save fastbloom_seal fastbloom_shared_clear fastbloom_shared_contains
         fastbloom_shared_contains_hash fastbloom_shared_contains_hashes fastbloom_shared_count_ones
-        fastbloom_shared_insert fastbloom_shared_insert_hash fastbloom_shared_insert_hashes
-        fastbloom_shared_insert_hashes_tell_new fastbloom_shared_intersect fastbloom_shared_load
+        fastbloom_shared_estimate fastbloom_shared_insert fastbloom_shared_insert_hash
+        fastbloom_shared_insert_hashes fastbloom_shared_insert_hashes_tell_new
+        fastbloom_shared_intersect fastbloom_shared_load fastbloom_shared_rate_now
         fastbloom_shared_take fastbloom_shared_union fastbloom_strerror fastbloom_union
         fastbloom_unload fastbloom_unmap fastbloom_version
     };

@@ -22,8 +22,8 @@ fn hashes_for(num_bits: usize, items: usize) -> u32 {
 ///
 /// So where it is larger than the cache, inserts and look-ups of many hashes are quicker than those
 /// of a [`BloomFilter`](crate::BloomFilter), and it takes a little more memory at the same rate. Its
-/// calls are those of the other kind, as far as it has them. It has no estimates and no rates. The
-/// two kinds aren't united, and neither reads the other's file.
+/// calls are those of the other kind, as far as it has them. The two kinds aren't united, and neither
+/// reads the other's file.
 ///
 /// ```
 /// use fastbloom_c::{BlockedBloomFilter, Rate};

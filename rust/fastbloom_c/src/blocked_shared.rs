@@ -30,7 +30,7 @@ impl AsRef<[AtomicU64]> for AtomicLines {
 ///
 /// Each call is made of atomic operations on the words of one line, so no insert is lost. The lines
 /// are the filter's own; or words that something else lends: a slice, as over a mapped file, or an
-/// `Arc`. The calls are those of [`AtomicBloomFilter`](crate::AtomicBloomFilter), but its rates.
+/// `Arc`. The calls are those of [`AtomicBloomFilter`](crate::AtomicBloomFilter).
 ///
 /// ```
 /// use fastbloom_c::{AtomicBlockedBloomFilter, BlockedBloomFilter};

@@ -1,5 +1,6 @@
 //! Filters: single items, and two filters.
 
+use crate::estimates::some;
 use crate::plain_calls::plain_calls;
 use crate::{raw, Bracket};
 
@@ -74,35 +75,6 @@ impl BloomFilter {
     #[must_use]
     pub fn expected_false_pos(&self, num_items: usize) -> Bracket {
         let told = raw::expected_rate(self.words.len(), self.num_hashes, num_items);
-        Bracket::of_filter(told.ok())
-    }
-
-    /// Two bounds of the mean rate of false positives, once this many items are in the filter.
-    ///
-    /// ```
-    /// # use fastbloom_c::BloomFilter;
-    /// let seen = BloomFilter::with_num_bits(64)?.hashes(2);
-    /// assert_eq!(seen.false_pos_bounds(1).low(), 8_867_011_522_199_552);
-    /// assert_eq!(seen.false_pos_bounds(1).high(), 13_725_461_381_120_000);
-    /// # Ok::<(), fastbloom_c::Error>(())
-    /// ```
-    #[must_use]
-    pub fn false_pos_bounds(&self, num_items: usize) -> Bracket {
-        let told = raw::rate_bounds(self.words.len(), self.num_hashes, num_items);
-        Bracket::of_filter(told.ok())
-    }
-
-    /// Two bounds of the rate of false positives of the filter as it is: the part of all look-ups,
-    /// where each position is drawn alike, that return true.
-    ///
-    /// ```
-    /// # use fastbloom_c::BloomFilter;
-    /// let seen = BloomFilter::from_vec(vec![4])?.hashes(1);
-    /// assert_eq!(seen.false_pos_now().to_f64(), 1.0 / 64.0);
-    /// # Ok::<(), fastbloom_c::Error>(())
-    /// ```
-    #[must_use]
-    pub fn false_pos_now(&self) -> Bracket {
-        Bracket::of_filter(raw::rate_now(&self.words, self.num_hashes))
+        Bracket::of_filter(some(told.ok()))
     }
 }

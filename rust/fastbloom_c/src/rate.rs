@@ -174,11 +174,8 @@ pub struct Bracket {
 
 impl Bracket {
     /// The bounds that the library tells of a filter.
-    pub(crate) fn of_filter(told: Option<(u64, u64)>) -> Bracket {
-        match told {
-            Some((low, high)) => Bracket { low, high },
-            None => unreachable!("a filter has from 1 to 2^58 - 1 words"),
-        }
+    pub(crate) fn of_filter((low, high): (u64, u64)) -> Bracket {
+        Bracket { low, high }
     }
 
     /// The lower bound.

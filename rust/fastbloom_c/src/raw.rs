@@ -96,23 +96,42 @@ pub fn expected_rate(num_words: usize, num_hashes: u32, items: usize) -> Result<
 }
 
 /// Two bounds of the mean rate, in units of 2^-63.
-pub fn rate_bounds(num_words: usize, num_hashes: u32, items: usize) -> Result<(u64, u64), Error> {
+pub fn rate_bounds(
+    kind: Kind,
+    num_words: usize,
+    num_hashes: u32,
+    items: usize,
+) -> Result<(u64, u64), Error> {
     let (mut low, mut high) = (0, 0);
+    let call = match kind {
+        Kind::Whole => sys::fastbloom_rate_bounds,
+        Kind::Blocked => sys::fastbloom_blocked_rate_bounds,
+    };
     // SAFETY: the pointers are to two locals of the type that the call writes.
-    Error::check(unsafe {
-        sys::fastbloom_rate_bounds(num_words, num_hashes, items, &mut low, &mut high)
-    })?;
+    Error::check(unsafe { call(num_words, num_hashes, items, &mut low, &mut high) })?;
     Ok((low, high))
 }
 
+/// How many items a filter takes at the rate `num / den`.
+pub fn capacity(kind: Kind, num_words: usize, num_hashes: u32, (num, den): (u64, u64)) -> usize {
+    let call = match kind {
+        Kind::Whole => sys::fastbloom_capacity,
+        Kind::Blocked => sys::fastbloom_blocked_capacity,
+    };
+    // SAFETY: the call takes no pointer.
+    unsafe { call(num_words, num_hashes, num, den) }
+}
+
 /// Two bounds of the rate of a filter as it is, in units of 2^-63. None: there are no words.
-pub fn rate_now(words: &[u64], num_hashes: u32) -> Option<(u64, u64)> {
+pub fn rate_now(kind: Kind, words: &[u64], num_hashes: u32) -> Option<(u64, u64)> {
     let (mut low, mut high) = (0, 0);
+    let call = match kind {
+        Kind::Whole => sys::fastbloom_rate_now,
+        Kind::Blocked => sys::fastbloom_blocked_rate_now,
+    };
     // SAFETY: the words are a slice of this length, which the call reads. The other pointers are to
     // two locals of the type that it writes.
-    let told = unsafe {
-        sys::fastbloom_rate_now(words.as_ptr(), words.len(), num_hashes, &mut low, &mut high)
-    };
+    let told = unsafe { call(words.as_ptr(), words.len(), num_hashes, &mut low, &mut high) };
     told.then_some((low, high))
 }
 
@@ -283,71 +302,89 @@ pub fn count_ones(words: &[u64]) -> usize {
 
 /// Two bounds of the number of items. The greatest number stands for no upper bound. None: there
 /// are no words.
-pub fn estimate(words: &[u64], num_hashes: u32) -> Option<(usize, usize)> {
+pub fn estimate(kind: Kind, words: &[u64], num_hashes: u32) -> Option<(usize, usize)> {
     let (mut low, mut high) = (0, 0);
+    let call = match kind {
+        Kind::Whole => sys::fastbloom_estimate,
+        Kind::Blocked => sys::fastbloom_blocked_estimate,
+    };
     // SAFETY: the words are a slice of this length, which the call reads. The other pointers are to
     // two locals of the type that it writes.
+    let told = unsafe { call(words.as_ptr(), words.len(), num_hashes, &mut low, &mut high) };
+    told.then_some((low, high))
+}
+
+/// A call that hands out two bounds of two lists of words.
+type OfTwo<T> =
+    unsafe extern "C" fn(*const u64, usize, *const u64, usize, u32, *mut T, *mut T) -> bool;
+
+/// The bounds that a call hands out. None: the numbers of words differ.
+///
+/// # Safety
+/// It reads the words, and writes two numbers.
+unsafe fn of_two<T: Default>(
+    call: OfTwo<T>,
+    words: &[u64],
+    other: &[u64],
+    num_hashes: u32,
+) -> Option<(T, T)> {
+    let (mut low, mut high) = (T::default(), T::default());
+    let (at, count, other_at, other_count) =
+        (words.as_ptr(), words.len(), other.as_ptr(), other.len());
+    // SAFETY: both are slices of their lengths, which the call reads, as the caller says. The other
+    // pointers are to two locals of the type that it writes.
     let told = unsafe {
-        sys::fastbloom_estimate(words.as_ptr(), words.len(), num_hashes, &mut low, &mut high)
+        call(
+            at,
+            count,
+            other_at,
+            other_count,
+            num_hashes,
+            &mut low,
+            &mut high,
+        )
     };
     told.then_some((low, high))
 }
 
 /// Two bounds of the number of items in the union. None: the numbers of words differ.
-pub fn estimate_union(words: &[u64], other: &[u64], num_hashes: u32) -> Option<(usize, usize)> {
-    let (mut low, mut high) = (0, 0);
-    // SAFETY: both are slices of their lengths, which the call reads. The other pointers are to two
-    // locals of the type that it writes.
-    let told = unsafe {
-        sys::fastbloom_estimate_union(
-            words.as_ptr(),
-            words.len(),
-            other.as_ptr(),
-            other.len(),
-            num_hashes,
-            &mut low,
-            &mut high,
-        )
+pub fn estimate_union(
+    kind: Kind,
+    words: &[u64],
+    other: &[u64],
+    num_hashes: u32,
+) -> Option<(usize, usize)> {
+    let call = match kind {
+        Kind::Whole => sys::fastbloom_estimate_union,
+        Kind::Blocked => sys::fastbloom_blocked_estimate_union,
     };
-    told.then_some((low, high))
+    // SAFETY: the library's calls are so.
+    unsafe { of_two(call, words, other, num_hashes) }
 }
 
 /// Two bounds of the number of items in common. None: the numbers of words differ.
-pub fn estimate_common(words: &[u64], other: &[u64], num_hashes: u32) -> Option<(usize, usize)> {
-    let (mut low, mut high) = (0, 0);
-    // SAFETY: both are slices of their lengths, which the call reads. The other pointers are to two
-    // locals of the type that it writes.
-    let told = unsafe {
-        sys::fastbloom_estimate_common(
-            words.as_ptr(),
-            words.len(),
-            other.as_ptr(),
-            other.len(),
-            num_hashes,
-            &mut low,
-            &mut high,
-        )
+pub fn estimate_common(
+    kind: Kind,
+    words: &[u64],
+    other: &[u64],
+    num_hashes: u32,
+) -> Option<(usize, usize)> {
+    let call = match kind {
+        Kind::Whole => sys::fastbloom_estimate_common,
+        Kind::Blocked => sys::fastbloom_blocked_estimate_common,
     };
-    told.then_some((low, high))
+    // SAFETY: as above.
+    unsafe { of_two(call, words, other, num_hashes) }
 }
 
 /// Two bounds of the part in common, in units of 2^-63. None: the numbers of words differ.
-pub fn jaccard(words: &[u64], other: &[u64], num_hashes: u32) -> Option<(u64, u64)> {
-    let (mut low, mut high) = (0, 0);
-    // SAFETY: both are slices of their lengths, which the call reads. The other pointers are to two
-    // locals of the type that it writes.
-    let told = unsafe {
-        sys::fastbloom_jaccard(
-            words.as_ptr(),
-            words.len(),
-            other.as_ptr(),
-            other.len(),
-            num_hashes,
-            &mut low,
-            &mut high,
-        )
+pub fn jaccard(kind: Kind, words: &[u64], other: &[u64], num_hashes: u32) -> Option<(u64, u64)> {
+    let call = match kind {
+        Kind::Whole => sys::fastbloom_jaccard,
+        Kind::Blocked => sys::fastbloom_blocked_jaccard,
     };
-    told.then_some((low, high))
+    // SAFETY: as above.
+    unsafe { of_two(call, words, other, num_hashes) }
 }
 
 /// The seal of the file of these words.

@@ -5,7 +5,7 @@
 //! operations, which is what the library asks for. A `&mut` overlaps with no other argument. The
 //! processor can run the library, since a filter is made only after a check of it (`raw`).
 
-use crate::raw::Key;
+use crate::raw::{Key, Kind};
 use fastbloom_c_sys as sys;
 use std::sync::atomic::AtomicU64;
 
@@ -151,4 +151,30 @@ pub fn load(words: &[AtomicU64], loaded: &mut [u64]) -> bool {
 pub fn count_ones(words: &[AtomicU64]) -> usize {
     // SAFETY: the words are a slice of atomic words.
     unsafe { sys::fastbloom_shared_count_ones(passed(words)) }
+}
+
+/// Two bounds of the rate as it is, in units of 2^-63, of the words as they are loaded. None: there
+/// are no words.
+pub fn rate_now(kind: Kind, words: &[AtomicU64], num_hashes: u32) -> Option<(u64, u64)> {
+    let (mut low, mut high) = (0, 0);
+    let call = match kind {
+        Kind::Whole => sys::fastbloom_shared_rate_now,
+        Kind::Blocked => sys::fastbloom_blocked_shared_rate_now,
+    };
+    // SAFETY: the words are a slice of atomic words. The other pointers are to two locals of the type
+    // that the call writes.
+    let told = unsafe { call(passed(words), num_hashes, &mut low, &mut high) };
+    told.then_some((low, high))
+}
+
+/// Two bounds of the number of items, of the words as they are loaded. None: there are no words.
+pub fn estimate(kind: Kind, words: &[AtomicU64], num_hashes: u32) -> Option<(usize, usize)> {
+    let (mut low, mut high) = (0, 0);
+    let call = match kind {
+        Kind::Whole => sys::fastbloom_shared_estimate,
+        Kind::Blocked => sys::fastbloom_blocked_shared_estimate,
+    };
+    // SAFETY: as above.
+    let told = unsafe { call(passed(words), num_hashes, &mut low, &mut high) };
+    told.then_some((low, high))
 }

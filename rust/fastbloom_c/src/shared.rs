@@ -1,5 +1,6 @@
 //! The filter that threads share, and change with no lock.
 
+use crate::estimates::some;
 use crate::shared_calls::shared_calls;
 use crate::{raw, raw_shared, BloomFilter, Bracket, Error};
 use std::sync::atomic::AtomicU64;
@@ -97,22 +98,7 @@ impl<W: AsRef<[AtomicU64]>> AtomicBloomFilter<W> {
     #[must_use]
     pub fn expected_false_pos(&self, num_items: usize) -> Bracket {
         let told = raw::expected_rate(self.as_slice().len(), self.num_hashes, num_items);
-        Bracket::of_filter(told.ok())
-    }
-
-    /// Two bounds of the mean rate of false positives, once this many items are in the filter.
-    ///
-    /// ```
-    /// # use fastbloom_c::{AtomicBloomFilter, BloomFilter};
-    /// let plain = BloomFilter::with_num_bits(1024)?.hashes(4);
-    /// let wanted = plain.false_pos_bounds(100);
-    /// assert_eq!(AtomicBloomFilter::from(plain).false_pos_bounds(100), wanted);
-    /// # Ok::<(), fastbloom_c::Error>(())
-    /// ```
-    #[must_use]
-    pub fn false_pos_bounds(&self, num_items: usize) -> Bracket {
-        let told = raw::rate_bounds(self.as_slice().len(), self.num_hashes, num_items);
-        Bracket::of_filter(told.ok())
+        Bracket::of_filter(some(told.ok()))
     }
 }
 

@@ -264,3 +264,58 @@ fn a_shared_filter_has_the_calls_of_a_plain_one() {
         "AtomicBlockedBloomFilter { num_bits: 1024, num_hashes: 1, .. }"
     );
 }
+
+#[test]
+fn rates_and_items_are_those_of_exact_fractions() {
+    // Lines, hashes, items, and the mean rate by fractions of Python.
+    for (lines, hashes, items, wanted) in [
+        (1, 1, 1, 1.0 / 512.0),
+        (1, 8, 10, 1.9775794994280592e-07),
+        (31, 9, 1000, 0.0008727198074233734),
+        (200, 6, 10_000, 0.008751541284288553),
+    ] {
+        let plain = BlockedBloomFilter::with_num_bits(512 * lines)
+            .expect("room")
+            .hashes(hashes);
+        let shared = AtomicBlockedBloomFilter::from(plain.clone());
+        let unit = 2f64.powi(-63);
+        for bounds in [
+            plain.false_pos_bounds(items),
+            shared.false_pos_bounds(items),
+        ] {
+            let (low, high) = (bounds.low() as f64 * unit, bounds.high() as f64 * unit);
+            assert!(low <= wanted && wanted <= high && high - low < 3e-12 * wanted);
+        }
+        let rate = "1/1000".parse().expect("a rate");
+        assert_eq!(plain.capacity_for(rate), shared.capacity_for(rate));
+    }
+    let small = BlockedBloomFilter::with_num_bits(512 * 31).expect("room");
+    assert_eq!(
+        small
+            .hashes(9)
+            .capacity_for("1/1000".parse().expect("a rate")),
+        1023
+    );
+}
+
+#[test]
+fn shared_lines_tell_what_plain_ones_do() {
+    let mut plain = BlockedBloomFilter::with_num_bits(100_000)
+        .expect("room")
+        .hashes(7);
+    let empty = plain.clone();
+    plain.insert_all((0..5000).map(|item: u32| item.to_string()));
+    let shared = AtomicBlockedBloomFilter::from(plain.clone());
+    assert_eq!(shared.false_pos_now(), plain.false_pos_now());
+    assert_eq!(shared.estimated_items(), plain.estimated_items());
+    let items = plain.estimated_items();
+    assert!(4_900 < items.low() && items.high() < Some(5_100));
+    // No bit is set in the other one.
+    assert_eq!(empty.false_pos_now().high(), 0);
+    let common = plain.estimated_common(&empty).expect("one shape");
+    assert!(common.low() == 0 && common.high() <= Some(1));
+    assert_eq!(plain.estimated_union(&empty), Ok(items));
+    assert_eq!(plain.jaccard(&plain).map(|it| it.high()), Ok(1 << 63));
+    let other = BlockedBloomFilter::with_num_bits(512).expect("room");
+    assert_eq!(plain.jaccard(&other.hashes(7)), Err(Error::OtherShape));
+}

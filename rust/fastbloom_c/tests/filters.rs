@@ -520,3 +520,16 @@ fn rates_of_filters_in_turn_are_the_greater_and_the_sum() {
         assert!(seen.insert_hash(place << 58));
     }
 }
+
+#[test]
+fn a_filter_takes_what_whole_numbers_of_another_language_say() {
+    for (words, hashes, rate, items) in [
+        (1, 1, "1/64", 1),
+        (1, 4, "1/10", 12),
+        (16, 7, "1/100", 106),
+        (156_250, 7, "1/128", 990_209),
+    ] {
+        let rate = rate.parse().expect("a rate");
+        assert_eq!(filter_of(&vec![0; words], hashes).capacity_for(rate), items);
+    }
+}

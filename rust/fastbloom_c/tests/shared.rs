@@ -1,6 +1,6 @@
 //! Threads insert into one filter at once, and lose nothing.
 
-use fastbloom_c::{AtomicBloomFilter, BloomFilter, Error};
+use fastbloom_c::{AtomicBloomFilter, BloomFilter, Error, Rate};
 use std::sync::atomic::AtomicU64;
 use std::sync::{Arc, Barrier, LazyLock};
 use std::thread;
@@ -181,6 +181,10 @@ fn threads_extend_one_filter_and_a_clone_has_words_of_its_own() {
     let other = seen.clone().seed(&0);
     assert_eq!(other, seen);
     seen.clear();
+    assert_eq!(other.false_pos_now(), plain.false_pos_now());
+    assert_eq!(other.estimated_items(), plain.estimated_items());
+    let rate = Rate::new(1, 100).expect("a rate");
+    assert_eq!(other.capacity_for(rate), plain.capacity_for(rate));
     assert_eq!(BloomFilter::from(other), plain);
     let rates = [seen.expected_false_pos(800), seen.false_pos_bounds(800)];
     assert_eq!(

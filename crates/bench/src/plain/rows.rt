@@ -23,13 +23,11 @@ pub enum Call {
     Clear,
     Clone,
     Iter,
-    ToData,
-    FromData,
-    Write,
-    Read,
 }
 
-const TEXTS: &'static [u32] = &[8, 16, 32, 64, 1000];
+const TEXTS: &'static [u32] = &[8, 16, 32, 64];
+
+const HASHED_TEXTS: &'static [u32] = &[8, 16, 32, 64, 1000];
 
 const HASHES: &'static [u32] = &[1, 2, 3, 7, 22];
 
@@ -37,9 +35,9 @@ const FOUND: &'static str = "found after it";
 
 const CHANGED: &'static str = "equal, or found after it";
 
-/// The rows of a plain filter: of items with seven hashes, of hashes with one to 22, of whole
-/// filters, and of filters as data and as JSON text.
-pub const TABLE: [Rows<Call>; 21] = [
+/// The rows of a plain filter: of items with seven hashes, of hashes with one to 22, and of
+/// whole filters.
+pub const TABLE: [Rows<Call>; 17] = [
     (
         Call::HashNumbers,
         "source_hash, u64",
@@ -54,7 +52,7 @@ pub const TABLE: [Rows<Call>; 21] = [
     (
         Call::HashTexts,
         "source_hash, text of bytes:",
-        TEXTS,
+        HASHED_TEXTS,
         Unit::Key,
         "odd hashes",
     ),
@@ -87,14 +85,4 @@ pub const TABLE: [Rows<Call>; 21] = [
     (Call::Clear, "clear, a word", &[7], Unit::Word, CHANGED),
     (Call::Clone, "try_clone, a word", &[7], Unit::Word, FOUND),
     (Call::Iter, "iter, a word", &[7], Unit::Word, "odd words"),
-    (Call::ToData, "to_data, a word", &[7], Unit::Word, "words"),
-    (Call::FromData, "from_data, a word", &[7], Unit::Word, FOUND),
-    (
-        Call::Write,
-        "JSON written, a word",
-        &[7],
-        Unit::Word,
-        "bytes",
-    ),
-    (Call::Read, "JSON read, a word", &[7], Unit::Word, "words"),
 ];

@@ -6,7 +6,6 @@ use crate::table::Rows;
 /// The calls of a shared filter.
 #[derive(Clone, Copy)]
 pub enum Call {
-    Bare,
     InsertHash,
     Hit,
     Miss,
@@ -14,12 +13,9 @@ pub enum Call {
     InsertAll,
     Union,
     Intersect,
-    SameWords,
     Clear,
     Clone,
     Iter,
-    ToData,
-    TakeWords,
 }
 
 const FOUND: &'static str = "found after it";
@@ -28,8 +24,7 @@ const CHANGED: &'static str = "same, or found after it";
 
 /// The rows of a shared filter with seven hashes, by one thread: of hashes and items, and of whole
 /// filters.
-pub const TABLE: [Rows<Call>; 14] = [
-    (Call::Bare, "fetch_or, seven", &[7], Unit::Key, "true"),
+pub const TABLE: [Rows<Call>; 10] = [
     (
         Call::InsertHash,
         "shared insert_hash",
@@ -62,13 +57,6 @@ pub const TABLE: [Rows<Call>; 14] = [
         CHANGED,
     ),
     (
-        Call::SameWords,
-        "shared same_words, a word",
-        &[7],
-        Unit::Word,
-        CHANGED,
-    ),
-    (
         Call::Clear,
         "shared clear, a word",
         &[7],
@@ -88,19 +76,5 @@ pub const TABLE: [Rows<Call>; 14] = [
         &[7],
         Unit::Word,
         "odd words",
-    ),
-    (
-        Call::ToData,
-        "shared to_data, a word",
-        &[7],
-        Unit::Word,
-        "words",
-    ),
-    (
-        Call::TakeWords,
-        "shared take_words, a word",
-        &[7],
-        Unit::Word,
-        "words",
     ),
 ];

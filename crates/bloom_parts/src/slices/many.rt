@@ -24,7 +24,7 @@ fn all_are_set(words: &[u64], num_hashes: u32, hashes: &[u64]) -> bool
     found == hashes.len()
 }
 
-// Turns on all positions of each of these hashes, one after the other.
+// Sets all positions of each of these hashes, one after the other.
 fn insert_each(words: &mut [u64], num_hashes: u32, hashes: &[u64])
     requires { 1 ≤ length words.old }
     ensures content { (p : ℕ) → content words.new p ≡ (content words.old p
@@ -48,7 +48,7 @@ fn insert_unless_present(words: &mut [u64], num_hashes: u32, hashes: &[u64])
     }
 }
 
-// Turns on all positions of each of these hashes, sixteen hashes at a time.
+// Sets all positions of each of these hashes, sixteen hashes at a time.
 fn insert_together(words: &mut [u64], num_hashes: u32, hashes: &[u64])
     requires { 1 ≤ length words.old }
     ensures content { (p : ℕ) → content words.new p ≡ (content words.old p
@@ -96,7 +96,7 @@ pub fn turn_on_where(on: bool, bits: &mut [u64], position: usize)
     bits[word] |= mask_where(on, position);
 }
 
-// Turns on bit i where hash i is contained, and no other.
+// Sets bit i where hash i is contained, and no other.
 fn find_each(words: &[u64], num_hashes: u32, hashes: &[u64], found: &mut [u64])
     requires words { 1 ≤ length words.now }
     requires room { length hashes.now ≤ 64 * length found.old }
@@ -112,7 +112,7 @@ fn find_each(words: &[u64], num_hashes: u32, hashes: &[u64], found: &mut [u64])
     }
 }
 
-// Turns on bit i where hash i is contained, and no other. The look-ups branch on no word, so that
+// Sets bit i where hash i is contained, and no other. The look-ups branch on no word, so that
 // the memory brings the words of many hashes side by side.
 fn find_together(words: &[u64], num_hashes: u32, hashes: &[u64], found: &mut [u64])
     requires words { 1 ≤ length words.now }

@@ -1,5 +1,9 @@
 //! The loops over the positions of a hash. They branch as seldom as they can, since no processor
 //! foresees whether one position is set.
+//!
+//! Each loop says what its form was measured to gain, in nanoseconds of a call with seven hashes,
+//! where no other number is named. docs/log/speed.md has these measurements, and the forms that
+//! were given up.
 ghost use Rattle.std.specs.Prelude.{◌≡◌, ℕ, ◌*◌, ◌<◌, ◌≤◌, ◌||◌, length};
 ghost use Rattle.bloom_parts.specs.Content.{content};
 ghost use Rattle.bloom_parts.specs.Places.{positions, are_in};
@@ -20,7 +24,8 @@ fn turn_on_next(words: &mut [u64], chain: &mut DoubleHasher) -> u64
 /// Sets all positions of a hash, and returns whether all of them were set before.
 ///
 /// One hash needs no chain. Of more the first two positions are set before any loop. One word
-/// gathers what was clear.
+/// gathers what was clear. At 10^4 keys an insert with one hash takes 2.6 so, and 2.9 where a loop
+/// begins behind the first position. With two hashes both take 4.3, and with seven 11.0.
 #[inline(always)]
 pub fn insert_positions(words: &mut [u64], num_hashes: u32, hash: u64) -> bool
     requires { 1 ≤ length words.old }
@@ -69,7 +74,8 @@ fn next_are_on(words: &[u64], chain: &mut DoubleHasher, count: u32) -> bool
 }
 
 // Whether the next `count` positions of a hash are set. It stops at the first that is clear. It
-// counts those before, so that the loop makes no `bool`.
+// counts those before, so that the loop makes no `bool`: at 10^4 keys a look-up of a number takes
+// 18.2 so, and 20.5 where the loop makes the answer.
 #[inline(always)]
 fn each_is_on(words: &[u64], chain: &mut DoubleHasher, count: u32) -> bool
     requires { 1 ≤ length words.now }
@@ -85,7 +91,8 @@ fn each_is_on(words: &[u64], chain: &mut DoubleHasher, count: u32) -> bool
 /// Whether all positions of a hash are set.
 ///
 /// Up to three are taken together. Of more, the first three are, which tell apart most hashes that
-/// were never inserted. It then stops at the first that is clear.
+/// were never inserted. It then stops at the first that is clear. In the lines of 10^6 keys a hit
+/// takes 13.5 so and a miss 10.9, and 15.5 and 18.0 one position after the other.
 #[inline(always)]
 pub fn contains_positions(words: &[u64], num_hashes: u32, hash: u64) -> bool
     requires { 1 ≤ length words.now }
@@ -103,7 +110,8 @@ pub fn contains_positions(words: &[u64], num_hashes: u32, hash: u64) -> bool
 
 /// Whether all positions of a hash are set.
 ///
-/// It counts, so that no branch waits for a word, and all words are asked for at once.
+/// It counts, so that no branch waits for a word, and all words are asked for at once. Of 10^7
+/// numbers an insert takes 0.52 of its time where sixteen are looked up so before.
 #[inline(always)]
 pub fn contains_by_count(words: &[u64], num_hashes: u32, hash: u64) -> bool
     requires { 1 ≤ length words.now }
@@ -117,7 +125,8 @@ pub fn contains_by_count(words: &[u64], num_hashes: u32, hash: u64) -> bool
 /// so few that they lie in the cache together, as those of one line do.
 ///
 /// It is one loop, with no case of its own for few hashes: the shorter an insert is, the more of
-/// them a processor has at work.
+/// them a processor has at work. In the lines of 10^5 and 10^6 keys it takes 12.0 and 13.4, and the
+/// loop for any words 14.3 and 15.3.
 #[inline(always)]
 pub fn insert_in_few_words(words: &mut [u64], num_hashes: u32, hash: u64) -> bool
     requires { 1 ≤ length words.old }
@@ -139,7 +148,9 @@ pub fn insert_in_few_words(words: &mut [u64], num_hashes: u32, hash: u64) -> boo
 ///
 /// The first three are taken together, which tells apart most hashes that were never inserted. Of
 /// seven and more the next four are taken without a loop, since ten bits an item ask for seven.
-/// All others are taken together too, since no position waits long for its word.
+/// All others are taken together too, since no position waits long for its word. In the lines of
+/// 10^6 keys a hit takes 12.6 and a miss 9.2 with all others together, and 13.5 and 10.9 in the
+/// loop for any words. The four without a loop take 0.8 off a hit.
 #[inline(always)]
 pub fn contains_in_few_words(words: &[u64], num_hashes: u32, hash: u64) -> bool
     requires { 1 ≤ length words.now }

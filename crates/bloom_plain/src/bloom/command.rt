@@ -1,5 +1,5 @@
 //! Lists of commands.
-ghost use Rattle.std.specs.Prelude.{◌≡◌, ◌+◌, ◌<◌, ◌≤◌, ◌∷◌, ◌++◌, [], All, map, option_to_list, vec_len, vec_capacity, IfOk, OnErr, IsOkUnless};
+ghost use Rattle.std.specs.Prelude.{◌≡◌, ◌+◌, ◌<◌, ◌≤◌, ◌∷◌, ◌++◌, [], All, map, option_to_list, vec_len, vec_capacity, IfOk, IsOk, OnErr, IsOkUnless};
 ghost use Rattle.bloom_plain.specs.CommandOf.{operation_of, Fits};
 ghost use Rattle.bloom_plain.specs.Replies.{CarriesOut};
 
@@ -68,7 +68,8 @@ impl<S> BloomFilter<S> {
     /// ```
     ///
     /// # Errors
-    /// `Memory` where there is no room for the replies. It is asked for before the first command.
+    /// `Memory` where there is no room for the replies. It is asked for before the first command,
+    /// and of an empty list not at all.
     pub fn replay(
         &mut self,
         alloc: Global,
@@ -78,6 +79,7 @@ impl<S> BloomFilter<S> {
         requires { All (Fits self.old) list.now }
         ensures ok { IfOk result (λ replies.
             CarriesOut self.old (map operation_of list.now) self.new replies.items) }
+        ensures succeeds { list.now ≡ [] → IsOk result }
         ensures refused { IsOkUnless result FilterError.Memory }
         ensures unchanged { OnErr result (self.new ≡ self.old) }
     {

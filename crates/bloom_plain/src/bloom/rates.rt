@@ -4,11 +4,13 @@ ghost use Rattle.bloom_plain.specs.Filter.{HasShape, SameShape, num_bits_of};
 ghost use Rattle.bloom_plain.specs.Ones.{ones_of, ones_of_either};
 ghost use Rattle.bloom_parts.specs.Brackets.{low_of, high_of, width_of, HoldsRate, rate_low, rate_high};
 ghost use Rattle.bloom_parts.specs.Content.{content};
-ghost use Rattle.bloom_parts.specs.FalsePositives.{HoldsFalsePositives, false_pos_high, false_pos_width, HoldsPositives, positives_low, positives_high};
+ghost use Rattle.bloom_parts.specs.FalsePositives.{HoldsFalsePositives, false_pos_high, false_pos_width, HoldsPositives, positives_low, positives_high, IsCapacity};
+ghost use Rattle.bloom_parts.specs.Rates.{num_of, den_of};
 
 use super::BloomFilter;
 use bloom_parts::math::{
-    Bracket, expected_density, expected_false_pos, false_pos_bounds, false_pos_of_ones,
+    Bracket, Rate, capacity, expected_density, expected_false_pos, false_pos_bounds,
+    false_pos_of_ones,
 };
 
 /// The classical formula of the rate of false positives for a filter of this many hashes and bits,
@@ -62,6 +64,15 @@ impl<S> BloomFilter<S> {
         ensures shape { HasShape self.now }
     {
         false_pos_bounds(self.num_hashes, self.num_bits(), num_items)
+    }
+
+    /// A number of items that the filter takes at a mean rate of false positives, of which one more
+    /// is too many, by the upper bound of `false_pos_bounds`.
+    pub fn capacity_for(&self, rate: Rate) -> usize
+        ensures { IsCapacity (num_bits_of self.now) self.now.hashes (num_of rate) (den_of rate)
+            result }
+    {
+        capacity(self.num_hashes, self.num_bits(), rate)
     }
 
     /// Two bounds of the rate of false positives of the filter as it is: the part of all look-ups,

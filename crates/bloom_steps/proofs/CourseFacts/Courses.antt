@@ -18,7 +18,7 @@ twins_answering answer = record {
   words = 1048577 ∷ [];
 }
 
--- two inserts of one fresh hash, with two hashes: each turns on a position, and both answer false
+-- two inserts of one fresh hash, with two hashes: each sets a position, and both answer false
 abbrev pub twins : Course
 twins = twins_answering false
 
@@ -33,7 +33,7 @@ disturbed = record {
   words = 1048576 ∷ [];
 }
 
--- a union of a filter with itself, across a clear, turns on again what it read before
+-- a union of a filter with itself, across a clear, sets again what it read before
 abbrev pub union_of_itself : Course
 union_of_itself = record {
   start = 5 ∷ [];
@@ -65,7 +65,7 @@ in_turn_answering answer = record {
   words = 5 ∷ [];
 }
 
--- a union, and then an insert that answers true, since it found its bit on
+-- a union, and then an insert that answers true, since it found its bit set
 abbrev pub in_turn : Course
 in_turn = in_turn_answering true
 
@@ -83,7 +83,7 @@ insert_then_contains_answering answer = record {
 abbrev pub insert_then_contains : Course
 insert_then_contains = insert_then_contains_answering true
 
--- a look-up that counts its last load alone, with two hashes: its first found the bit off
+-- a look-up that counts its last load alone, with two hashes: its first found the bit clear
 abbrev pub last_load_alone : Course
 last_load_alone = record {
   start = 1048576 ∷ [];
@@ -104,7 +104,7 @@ between_clears = record {
   words = 0 ∷ [];
 }
 
--- a look-up across a clear that turns off another position than its own, with one hash
+-- a look-up across a clear that clears another position than its own, with one hash
 abbrev pub clear_elsewhere : Course
 clear_elsewhere = record {
   start = 4 ∷ [];
@@ -114,7 +114,7 @@ clear_elsewhere = record {
   words = 0 ∷ [];
 }
 
--- an insert of loads alone, with one hash: it answers false, and turns on nothing
+-- an insert of loads alone, with one hash: it answers false, and sets nothing
 abbrev pub idle_insert : Course
 idle_insert = record {
   start = 0 ∷ [];

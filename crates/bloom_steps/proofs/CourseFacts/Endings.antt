@@ -52,11 +52,11 @@ looked-up is =
     each-member (λ m r. r ≡ Began is.party (Insert is.hash) → ⊥) last_load_alone.records
     ((λ e. cc), ((λ e. cc), ((λ e. cc), tt))) is.m _ is.begins refl
 
--- position 2 was found on in the other filter, whatever the words in the end
+-- position 2 was found set in the other filter, whatever the words in the end
 found : (words : List ℕ) → IsFoundInOther (record in_turn { words = words }) 2
 found words = record { m = 1; party = 0; found = 5; ended = Running; reads = refl; on = refl }
 
--- position 1 was not found on in the other filter
+-- position 1 was not found set in the other filter
 unfound : IsFoundInOther in_turn 1 → ⊥
 unfound is =
     let word =
@@ -71,7 +71,7 @@ unfound-elsewhere is =
     each-member (λ m r. r ≡ Did is.party (Other 1) is.found is.ended → ⊥) in_turn.records
     ((λ e. cc), ((λ e. cc), ((λ e. cc), ((λ e. cc), ((λ e. cc), tt))))) is.m _ is.reads refl
 
--- the twins found nothing on in the other filter
+-- the twins found nothing set in the other filter
 none_found : (words : List ℕ) (p : ℕ) → IsFoundInOther (record twins { words = words }) p → ⊥
 none_found words p is =
     each-member
@@ -90,7 +90,7 @@ ended (suc (suc party)) = idle-past 2 (suc (suc party)) twins.records 6 refl (om
 ends : EndsWithAll 2 twins
 ends = ends_with_all 2 twins lawful-twins
 
--- a position that was inserted may not be off in the end
+-- a position that was inserted may not be clear in the end
 ends-short : EndsWithAll 2 (record twins { words = 1 ∷ [] }) → ⊥
 unfolding content chain
 ends-short ends =
@@ -98,7 +98,7 @@ ends-short ends =
     (inr (inl (inserted (1 ∷ [])))) in
     cc
 
--- a position that was on nowhere and not inserted may not be on in the end
+-- a position that was set nowhere and not inserted may not be set in the end
 ends-long : EndsWithAll 2 (record twins { words = 1048579 ∷ [] }) → ⊥
 unfolding content chain
 ends-long ends =
@@ -110,7 +110,7 @@ ends-long ends =
       ]
     ]
 
--- a position that was found on in the other filter may not be off in the end
+-- a position that was found set in the other filter may not be clear in the end
 ends-unfound : EndsWithAll 1 (record in_turn { words = 1 ∷ [] }) → ⊥
 unfolding content chain
 ends-unfound ends =
@@ -121,7 +121,7 @@ ends-unfound ends =
 abbrev forgotten : Course
 forgotten = record { start = 4 ∷ []; records = []; words = 0 ∷ [] }
 
--- a position that was on at the start may not be off in the end
+-- a position that was set at the start may not be clear in the end
 ends-forgotten : EndsWithAll 1 forgotten → ⊥
 unfolding content chain records_of
 ends-forgotten ends =

@@ -1,4 +1,4 @@
--- What the theorem on finished inserts says where a position of the hash is turned off just before
+-- What the theorem on finished inserts says where a position of the hash is cleared just before
 -- the insert begins, and again just after the look-up ends.
 use Rattle.std.proofs.Common.{◌≡◌, true, false, refl, arith, sym, subst, zero, suc, ℕ, ◌≤◌}
 use Rattle.std.proofs.lemmas.Bool.{both_ways}
@@ -19,7 +19,7 @@ use Rattle.bloom_steps.proofs.CourseFacts.Undisturbed.{only}
 abbrev run : Course
 run = found_between_clears_answering false
 
--- nothing is turned off from the insert's beginning to the look-up's last step
+-- nothing is cleared from the insert's beginning to the look-up's last step
 kept : NoneTurnedOff 1 run 0 2 5
 unfolding content
 kept m p a b x = subst (λ q. turns_off run m q ≡ false) (sym (only p x)) (at m a b)
@@ -33,7 +33,7 @@ kept m p a b x = subst (λ q. turns_off run m q ≡ false) (sym (only p x)) (at 
     at (suc (suc (suc (suc (suc zero))))) a b = refl
     at (suc (suc (suc (suc (suc (suc m)))))) a b = absurd (omega (arith, b))
 
--- a record before the insert's beginning turns a position of the hash off
+-- a record before the insert's beginning clears a position of the hash
 off-before : NoneTurnedOff 1 run 0 1 5 → ⊥
 unfolding content chain
 off-before none =
@@ -41,7 +41,7 @@ off-before none =
     both_ways (turns_off run 1 0)
     (none 1 0 (omega arith) (omega arith) (place-position 64 1 0 0 (omega arith))) on
 
--- two records after the look-up's last step a position of the hash is turned off
+-- two records after the look-up's last step a position of the hash is cleared
 off-after : NoneTurnedOff 1 run 0 2 7 → ⊥
 unfolding content chain
 off-after none =

@@ -1,4 +1,4 @@
--- How many positions the steps of the worked courses gain, and how many found their bit off.
+-- How many positions the steps of the worked courses gain, and how many found their bit clear.
 use Rattle.std.proofs.Common.{◌≡◌, ◌≢◌, ◌%◌, ◌==◌, ◌∷◌, [], true, false, not, ◌&&◌, count_by, refl, arith, sym}
 use Rattle.bloom_parts.specs.Content.{content}
 use Rattle.bloom_steps.specs.declared.steps.vocabulary.Step.TheVariants.{Load, Or, And, Zero, Other}
@@ -25,39 +25,39 @@ even-below = refl
 even-below_one : count_below 4 (λ n. n % 2 == 0) ≡ 2
 even-below_one = refl
 
--- an or whose mask was off found its bit off
+-- an or whose mask was clear found its bit clear
 or-off : found_off (Did 0 (Or 0 2) 5 Running) ≡ true
 or-off = refl
 
--- an or whose mask was on didn't find its bit off
+-- an or whose mask was set didn't find its bit clear
 or-on : found_off (Did 0 (Or 0 1) 5 Running) ≡ false
 or-on = refl
 
--- a load doesn't count as a step that found its bit off
+-- a load doesn't count as a step that found its bit clear
 load-off : found_off (Did 0 (Load 0) 0 Running) ≡ false
 load-off = refl
 
--- an and doesn't count as a step that found its bit off
+-- an and doesn't count as a step that found its bit clear
 and-off : found_off (Did 0 (And 0 2) 5 Running) ≡ false
 and-off = refl
 
--- a zero doesn't count as a step that found its bit off
+-- a zero doesn't count as a step that found its bit clear
 zero-off : found_off (Did 0 (Zero 0) 0 Running) ≡ false
 zero-off = refl
 
--- a read of the other filter doesn't count as a step that found its bit off
+-- a read of the other filter doesn't count as a step that found its bit clear
 other-off : found_off (Did 0 (Other 0) 0 Running) ≡ false
 other-off = refl
 
--- a take doesn't count as a step that found its bit off
+-- a take doesn't count as a step that found its bit clear
 take-off : found_off (Did 0 (step.Take 0) 0 Running) ≡ false
 take-off = refl
 
--- a beginning doesn't count as a step that found its bit off
+-- a beginning doesn't count as a step that found its bit clear
 began-off : found_off (Began 0 Clear) ≡ false
 began-off = refl
 
--- two steps of the twins found their bit off
+-- two steps of the twins found their bit clear
 twins-off : count_by found_off twins.records ≡ 2
 twins-off = refl
 
@@ -92,7 +92,7 @@ twins-by_hash =
       only-insert Take (λ e. cc),
     )
 
--- no call of the twins turns anything off
+-- no call of the twins clears anything
 pub twins-grow : EveryCall turns_none_off twins.records
 twins-grow =
     (growing twins.records).1

@@ -16,7 +16,7 @@ use Rattle.bloom_steps.proofs.CourseFacts.Finished.{finished, step_at}
 use Rattle.bloom_steps.proofs.CourseFacts.Lawful.{lawful-twins}
 use Rattle.bloom_steps.proofs.RunLemmas.Inserts.{inserts_tell}
 
--- the first of the twins turns position 0 on
+-- the first of the twins sets position 0
 first-on : (answer : Bool) → TurnsOneOn (twins_answering answer) 0 0 5
 unfolding content
 first-on answer = record {
@@ -29,7 +29,7 @@ first-on answer = record {
   on = refl;
 }
 
--- the second of the twins turns position 20 on
+-- the second of the twins sets position 20
 second-on : TurnsOneOn twins 1 1 4
 unfolding content
 second-on = record {
@@ -42,11 +42,11 @@ second-on = record {
   on = refl;
 }
 
--- no step later than the last record turns a position on
+-- no step later than the last record sets a position
 none-later : TurnsOneOn twins 0 5 5 → ⊥
 none-later one = omega (arith, one.later, one.upto)
 
--- a party that made no step turns no position on
+-- a party that made no step sets no position
 none-of_another : TurnsOneOn twins 7 0 5 → ⊥
 none-of_another one =
     each-member
@@ -72,7 +72,7 @@ untold tell =
     let wrong = (tell 0 1 0 5 true is).1 (first-on true) in
     cc
 
--- an insert of loads alone turns no position on
+-- an insert of loads alone sets no position
 idle-on : TurnsOneOn idle_insert 0 0 1 → ⊥
 unfolding content
 idle-on one =

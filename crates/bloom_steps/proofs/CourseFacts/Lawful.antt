@@ -21,11 +21,11 @@ use Rattle.bloom_steps.proofs.StepLemmas.Finding.{ends-off}
 pub one-word : (word : ℕ) → word < 2 ^ 64 → AreWords (word ∷ [])
 one-word word fits = All-cons (λ w. w < 2 ^ 64) word [] fits (All-nil (λ w. w < 2 ^ 64))
 
--- an insert of one step, which found its bit off
+-- an insert of one step, which found its bit clear
 abbrev inserted : List Taken
 inserted = took (Or 0 1) 4 (Answer false) ∷ []
 
--- an or that found its bit off is a whole insert of one hash
+-- an or that found its bit clear is a whole insert of one hash
 pub inserted-script : IsScript 1 1 (Insert 0) inserted
 unfolding chain
 inserted-script = record {
@@ -36,11 +36,11 @@ inserted-script = record {
   last = each-member _ inserted ((λ l. ends-off 1 0 inserted 0 _ refl refl), tt);
 }
 
--- a look-up of one load, which found its bit on
+-- a look-up of one load, which found its bit set
 abbrev found : List Taken
 found = took (Load 0) 5 (Answer true) ∷ []
 
--- a load that found its bit on is a whole look-up of one hash
+-- a load that found its bit set is a whole look-up of one hash
 found-script : IsScript 1 1 (Contains 0) found
 unfolding chain
 found-script = record {
@@ -104,7 +104,7 @@ first-script = record {
       ((λ l. absurd (omega (arith, l))), ((λ l. ends-off 1 1 first 0 _ refl refl), tt));
 }
 
--- the calls of the twins: the second's steps are those of an insert that found its second bit off
+-- the calls of the twins: the second's steps are those of an insert that found its second bit clear
 calls-twins : (party : ℕ) → CallAfterCall 1 2 party (records_of party twins.records)
 unfolding records_of
 calls-twins zero = whole_call (Insert 1) first [] first-script no_call
@@ -129,11 +129,11 @@ lawful-twins =
     )
     refl refl (one-word 1048577 (lit< tt)) calls-twins
 
--- an insert of one step, which found its bit on
+-- an insert of one step, which found its bit set
 abbrev known : List Taken
 known = took (Or 0 1) 5 (Answer true) ∷ []
 
--- an or that found its bit on is a whole insert of one hash
+-- an or that found its bit set is a whole insert of one hash
 known-script : IsScript 1 1 (Insert 0) known
 unfolding chain
 known-script = record {

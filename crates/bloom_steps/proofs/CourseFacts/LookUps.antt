@@ -128,7 +128,7 @@ untold tell =
     both_ways (are_in 64 1 0 (moment (insert_then_contains_answering false) 3)) (right.off refl)
     contained
 
--- nothing is turned off where a look-up follows an insert
+-- nothing is cleared where a look-up follows an insert
 kept : NoneTurnedOff 1 (insert_then_contains_answering false) 0 0 3
 unfolding content
 kept m p a b x =
@@ -158,7 +158,7 @@ between none =
     both_ways (turns_off insert_in_clear 6 64)
     (none 6 64 (omega arith) (omega arith) (place-position 128 3 1 2 (omega arith))) on
 
--- the look-up after an insert within a clear found position 64 off
+-- the look-up after an insert within a clear found position 64 clear
 between-off : are_in 128 3 1 (moment insert_in_clear 10) ≡ false
 unfolding content chain are_in
 between-off = refl

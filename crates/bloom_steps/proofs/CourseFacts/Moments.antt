@@ -1,4 +1,4 @@
--- What is on at the moments of the worked courses, and which records turn positions on and off.
+-- What is set at the moments of the worked courses, and which records set and clear positions.
 use Rattle.std.proofs.Common.{◌≡◌, true, false, refl, arith}
 use Rattle.bloom_parts.specs.Content.{content}
 use Rattle.bloom_steps.specs.Moments.{bits_of, moment, turns_on, turns_off, IsInSpan}
@@ -8,52 +8,52 @@ use Rattle.bloom_steps.proofs.CourseFacts.Courses.{twins, disturbed, union_of_it
 bits-two : bits_of insert_in_clear ≡ 128
 bits-two = refl
 
--- the clear turns position 0 off
+-- the clear clears position 0
 off-clear : turns_off disturbed 3 0 ≡ true
 unfolding content
 off-clear = refl
 
--- the union turns position 20 on
+-- the union sets position 20
 on-union : turns_on disturbed 6 20 ≡ true
 unfolding content
 on-union = refl
 
--- the clear turns nothing off that was off
+-- the clear clears nothing that was clear
 off-other : turns_off disturbed 3 20 ≡ false
 unfolding content
 off-other = refl
 
--- the union's read turns nothing on
+-- the union's read sets nothing
 on-read : turns_on disturbed 5 20 ≡ false
 unfolding content
 on-read = refl
 
--- the first of the twins turns position 0 on
+-- the first of the twins sets position 0
 twins-on : turns_on twins 2 0 ≡ true
 unfolding content
 twins-on = refl
 
--- the second of the twins doesn't turn position 0 on again
+-- the second of the twins doesn't set position 0 again
 twins-on_again : turns_on twins 3 0 ≡ false
 unfolding content
 twins-on_again = refl
 
--- the second of the twins turns on position 20
+-- the second of the twins sets position 20
 twins-on_second : turns_on twins 4 20 ≡ true
 unfolding content
 twins-on_second = refl
 
--- the twins turn nothing off
+-- the twins clear nothing
 twins-off : turns_off twins 3 0 ≡ false
 unfolding content
 twins-off = refl
 
--- just after the clear nothing is on
+-- just after the clear nothing is set
 cleared : moment union_of_itself 4 0 ≡ false
 unfolding content
 cleared = refl
 
--- in the end what the union had read is on again
+-- in the end what the union had read is set again
 united : moment union_of_itself 5 2 ≡ true
 unfolding content
 united = refl

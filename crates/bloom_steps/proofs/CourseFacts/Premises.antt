@@ -14,7 +14,7 @@ use Rattle.bloom_steps.proofs.StepFacts.Members.{each-member}
 abbrev pub NoCall : List Record → Call → Type 0
 NoCall records call = (m party : ℕ) → slice_get records m ≢ Some (Began party call)
 
--- no call turns anything off exactly if none is a clear, an intersection or a take
+-- no call clears anything exactly if none is a clear, an intersection or a take
 pub growing : (records : List Record)
     → EveryCall turns_none_off records
     ↔ (NoCall records Clear × NoCall records Intersect × NoCall records Take)

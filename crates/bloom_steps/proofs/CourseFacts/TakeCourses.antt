@@ -1,4 +1,4 @@
--- Worked courses of takes: what was on and was turned on is what was taken and what is left.
+-- Worked courses of takes: what was set at the start or by a step is what was taken and is left.
 use Rattle.std.proofs.Common.{◌≡◌, ◌∷◌, [], ℕ, refl, arith, inl, count_by}
 use Rattle.std.specs.Prelude.{sum_by}
 use Rattle.bloom_parts.specs.Content.{content}
@@ -12,7 +12,7 @@ use Rattle.bloom_steps.specs.Courses.{Course, Follows, next_event, no_event, rec
 use Rattle.bloom_steps.specs.Interleavings.{IsBalanced, bits_on, bits_taken, count_below, found_off}
 use Rattle.bloom_steps.specs.Moments.{bits_of}
 
--- the word 5 has two bits on
+-- the word 5 has two bits set
 five-bits : bits_on 5 ≡ 2
 unfolding bits_on
 five-bits = refl
@@ -22,7 +22,7 @@ highest-bit : bits_on 9223372036854775808 ≡ 1
 unfolding bits_on
 highest-bit = refl
 
--- a take alone tells how many bits were on in the word that it found
+-- a take alone tells how many bits were set in the word that it found
 taken-bits : (bits_taken (Did 0 (step.Take 0) 5 Done) ≡ 2) × (bits_taken (Began 0 Take) ≡ 0)
     × (bits_taken (Did 0 (Load 0) 5 Running) ≡ 0) × (bits_taken (Did 0 (Or 0 5) 5 Running) ≡ 0)
     × (bits_taken (Did 0 (And 0 5) 5 Running) ≡ 0) × (bits_taken (Did 0 (Zero 0) 5 Done) ≡ 0)
@@ -30,7 +30,7 @@ taken-bits : (bits_taken (Did 0 (step.Take 0) 5 Done) ≡ 2) × (bits_taken (Beg
 unfolding bits_on
 taken-bits = (refl, refl, refl, refl, refl, refl, refl)
 
--- the four numbers of a course: on at the start, turned on, taken, left
+-- the four numbers of a course: set at the start, set by steps, taken, left
 pub record HasCounts (run : Course) (start gained taken left : ℕ) : Type 0 where
   pub at_start : count_below (bits_of run) (content run.start) ≡ start
   pub turned_on : count_by found_off run.records ≡ gained

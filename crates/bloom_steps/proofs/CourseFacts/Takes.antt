@@ -37,7 +37,7 @@ take_two-script = record {
   last = each-member _ take_two ((λ l. absurd (omega (arith, l))), ((λ l. refl), tt));
 }
 
--- steps that turn a word off and tell nothing are no take
+-- steps that clear a word and tell nothing are no take
 zeros-take : IsScript 2 2 Take (took (Zero 0) 0 Running ∷ took (Zero 1) 0 Done ∷ []) → ⊥
 zeros-take is = let step = is.steps 0 _ refl in cc
 

@@ -1,4 +1,4 @@
--- A take between the steps of an insert: it loses nothing that was turned on, and a clear does.
+-- A take between the steps of an insert: it loses nothing that was set, and a clear does.
 use Rattle.std.proofs.Common.{◌≡◌, ◌∷◌, [], List, ℕ, zero, suc, true, false, Some, refl, arith, sym, subst, lit<, slice_get}
 use Rattle.bloom_parts.specs.Chain.{chain}
 use Rattle.bloom_parts.specs.Content.{content}
@@ -100,7 +100,7 @@ between-counts : HasCounts (between 1) 0 2 1 1
 unfolding content bits_on
 between-counts = record { at_start = refl; turned_on = refl; found = refl; at_end = refl }
 
--- the numbers where the take doesn't tell the bit that it turned off: 0 + 2 against 0 + 1
+-- the numbers where the take doesn't tell the bit that it cleared: 0 + 2 against 0 + 1
 lost-counts : HasCounts (between 0) 0 2 0 1
 unfolding content bits_on
 lost-counts = record { at_start = refl; turned_on = refl; found = refl; at_end = refl }
@@ -117,19 +117,19 @@ lost-then : TakesLoseNothing (between 0) → ⊥
 unfolding content bits_on
 lost-then keeps = let even = (keeps (each-between 0)).always 4 (omega arith) in cc
 
--- the numbers where the take tells a bit that was off: 0 + 2 against 2 + 1
+-- the numbers where the take tells a bit that was clear: 0 + 2 against 2 + 1
 invented-counts : HasCounts (between 3) 0 2 2 1
 unfolding content bits_on
 invented-counts = record { at_start = refl; turned_on = refl; found = refl; at_end = refl }
 
--- the theorem on takes fails of a take that tells a bit that was off
+-- the theorem on takes fails of a take that tells a bit that was clear
 invented : TakesLoseNothing (between 3) → ⊥
 invented keeps =
     let even = (keeps (each-between 3)).whole in
     let c = invented-counts in
     omega (arith, even, c.at_start, c.turned_on, c.found, c.at_end)
 
--- the theorem on takes fails just after a take that tells a bit that was off already
+-- the theorem on takes fails already just after a take that tells a bit that was clear
 invented-then : TakesLoseNothing (between 3) → ⊥
 unfolding content bits_on
 invented-then keeps = let even = (keeps (each-between 3)).always 4 (omega arith) in cc

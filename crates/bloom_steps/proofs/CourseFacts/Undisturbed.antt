@@ -13,7 +13,7 @@ use Rattle.bloom_steps.specs.Courses.{Course}
 use Rattle.bloom_steps.specs.Moments.{moment, turns_off, IsUndisturbed, NoneTurnedOff}
 use Rattle.bloom_steps.proofs.CourseFacts.Courses.{disturbed, last_load_alone, between_clears, clear_elsewhere}
 
--- a bit that stays as it is isn't turned off
+-- a bit that stays as it is isn't cleared
 never : (b : Bool) → (b && not b) ≡ false
 never true = refl
 never false = refl
@@ -45,14 +45,14 @@ alone (suc zero) p a b x = never (content last_load_alone.start p)
 alone (suc (suc zero)) p a b x = never (content last_load_alone.start p)
 alone (suc (suc (suc m))) p a b x = absurd (omega (arith, b))
 
--- what is turned off just before its beginning and just after its end disturbs no look-up
+-- what is cleared just before its beginning and just after its end disturbs no look-up
 between-clears : IsUndisturbed 1 between_clears 0 5 6
 unfolding content
 between-clears m p a b x =
     let here : 6 ≡ m = omega (arith, a, b) in
     subst (λ n. turns_off between_clears n p ≡ false) here (never (moment between_clears 6 p))
 
--- the clear before the look-up between clears turns a position off
+-- the clear before the look-up that lies between two does clear a position
 before-clears : NoneTurnedOff 1 between_clears 0 1 6 → ⊥
 unfolding content chain
 before-clears h =
@@ -60,7 +60,7 @@ before-clears h =
     both_ways (turns_off between_clears 1 0)
     (h 1 0 (omega arith) (omega arith) (place-position 64 1 0 0 (omega arith))) on
 
--- the clear after the look-up between clears turns a position off
+-- the clear after the look-up that lies between two does clear a position
 after-clears : NoneTurnedOff 1 between_clears 0 6 7 → ⊥
 unfolding content chain
 after-clears h =
@@ -68,7 +68,7 @@ after-clears h =
     both_ways (turns_off between_clears 7 0)
     (h 7 0 (omega arith) (omega arith) (place-position 64 1 0 0 (omega arith))) on
 
--- what is turned off at another position doesn't disturb a look-up
+-- what is cleared at another position doesn't disturb a look-up
 elsewhere : IsUndisturbed 1 clear_elsewhere 0 0 3
 unfolding content
 elsewhere m p a b x = subst (λ q. turns_off clear_elsewhere m q ≡ false) (sym (only p x)) (at m a b)
@@ -80,7 +80,7 @@ elsewhere m p a b x = subst (λ q. turns_off clear_elsewhere m q ≡ false) (sym
     at (suc (suc (suc zero))) a b = refl
     at (suc (suc (suc (suc m)))) a b = absurd (omega (arith, b))
 
--- the clear across the look-up of another position does turn a position off
+-- the clear across the look-up of another position does clear a position
 elsewhere-off : turns_off clear_elsewhere 2 2 ≡ true
 unfolding content
 elsewhere-off = refl

@@ -1,4 +1,4 @@
--- Each record moves the positions on by what it turns on or takes.
+-- Each record changes the number of set positions by what it sets or takes.
 use Rattle.std.proofs.Common.{◌%◌, ◌+◌, ◌/◌, ◌<◌, ◌∙◌, ◌≡◌, ◌≢◌, Bool, List, None, Some, ap, arith, cond, eq-eqb, false, if◌then◌else◌, inl, inr, length, nat_eq, not, refl, slice_get, subst, sym, true, unwrap_or, ℕ}
 use Rattle.std.proofs.lemmas.Bool.{both_ways, cases_lt, ne_eqb}
 use Rattle.std.proofs.lemmas.Bool.Decides.{eqb_tells}
@@ -23,18 +23,18 @@ use Rattle.bloom_steps.proofs.RunLemmas.Masks.{found_off-test}
 use Rattle.bloom_steps.proofs.RunLemmas.PlacedSteps.{IsPlacedAt}
 use Rattle.bloom_steps.proofs.RunLemmas.RecordedCalls.{step_held}
 
--- how many positions are on at moment m
+-- how many positions are set at moment m
 abbrev pub on_at : Course → ℕ → ℕ
 on_at run m = count_below (bits_of run) (moment run m)
 
--- what record m turns on and what it takes are the difference of the two moments
+-- what record m sets and what it takes are the difference of the two moments
 pub record Balances (run : Course) (m : ℕ) (r : Record) : Type 0 where
   pub even : on_at run m + cond (found_off r) 1 0 ≡ bits_taken r + on_at run (m + 1)
   pub taken : EveryCall goes_by_hash run.records → bits_taken r ≡ 0
 
 -- a lawful run
 module _ (k : ℕ) (run : Course) (lawful : IsLawful k run) where
-  -- a record that finds no bit off, takes nothing and leaves the set
+  -- a record that finds no bit clear, takes nothing and leaves the set
   stays : (m : ℕ) (r : Record) → found_off r ≡ false → bits_taken r ≡ 0
       → ((q : ℕ) → moment run (m + 1) q ≡ moment run m q) → Balances run m r
   stays m r off none same =

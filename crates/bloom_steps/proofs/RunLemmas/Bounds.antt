@@ -1,4 +1,4 @@
--- What no step makes off stays on, and past the words nothing is ever on.
+-- What no step clears stays set, and past the words nothing is ever set.
 use Rattle.bloom_steps.proofs.StepLemmas.Plans.{made, plan_decides, PlanDecides}
 use Rattle.std.proofs.Common.{◌%◌, ◌*◌, ◌-◌, ◌/◌, ◌<◌, ◌^◌, ◌∙◌, ◌≡◌, ◌≤◌, ◌⊎◌, List, None, Some, ap, arith, false, if◌then◌else◌, inl, inr, length, nat_eq, refl, slice_get, subst, sym, true, unwrap_or, ℕ}
 use Rattle.std.proofs.Math.Seq.{take-length}
@@ -34,7 +34,7 @@ pair-past w q op s t off past at = elim at.either [
   | inr u ↦ ap (λ x. step_decides x q) u.3 ∙ off at.i u.0.found (not_here q at.i w at.below past)
 ]
 
--- past the words no step of a plan makes anything off
+-- past the words no step of a plan clears anything
 past_step : (w k q : ℕ) (plan : Plan) (s : List Taken) (j : ℕ) (t : Taken) → PlanDecides plan
     → w ≤ q / 64 → IsPlacedAt w k plan s j t
     → DecidesOnly (Some true) q t.step
@@ -51,7 +51,7 @@ past_step w k q (EachPair op on) s j t does past at =
     (pair-past w q op s t
     (λ i x off. does.0 i x q ∙ ap (λ b. if b then made on (bit_is_on x q) else None) off) past at)
 
--- a record that makes nothing off turns nothing off
+-- a record that doesn't decide to clear a position doesn't clear it
 not_off : (run : Course) (m q : ℕ) (r : Record) → slice_get run.records m ≡ Some r
     → (record_decides r q ≡ None) ⊎ (record_decides r q ≡ Some true) → TurnsOff run m q → ⊥
 not_off run m q r g only off =
@@ -63,14 +63,14 @@ not_off run m q r g only off =
       | inr on ↦ both_ways true (sym (after ∙ ap (λ o. unwrap_or o (moment run m q)) on)) refl
     ]
 
--- no step of a run makes a position off
+-- no step of a run decides to clear a position
 abbrev pub NoneMakesOff : Course → ℕ → Type 0
 NoneMakesOff run q =
     (m p : ℕ) (step : Step) (found : ℕ) (e : End) → slice_get run.records m ≡ Some
     (Did p step found e)
     → DecidesOnly (Some true) q step
 
--- where no step makes a position off, no record turns it off
+-- where no step decides to clear a position, no record clears it
 pub none_off : (run : Course) (q : ℕ) → NoneMakesOff run q → (m : ℕ) → m < length run.records
     → TurnsOff run m q → ⊥
 none_off run q all m below off = let there = some_member run.records m below in at there.0 there.1
@@ -87,7 +87,7 @@ module _ (k : ℕ) (run : Course) (lawful : IsLawful k run) where
       lawful.bits q
       ∙ ap (λ rs. after_records (content run.start) rs q) (sym (take-length run.records))
 
-  -- where no step makes a position off, what is on stays on to the end
+  -- where no step decides to clear a position, it stays set to the end once it is set
   pub stays_to_end : (q : ℕ) → NoneMakesOff run q → (m : ℕ) → m ≤ length run.records
       → moment run m q ≡ true
       → content run.words q ≡ true
@@ -96,7 +96,7 @@ module _ (k : ℕ) (run : Course) (lawful : IsLawful k run) where
       ∙ persists run q m (length run.records - m) (length run.records) (omega arith) on
       (λ n a b off. none_off run q all n b off)
 
-  -- past the words nothing is ever on
+  -- past the words nothing is ever set
   pub moment-past : (m q : ℕ) → m ≤ length run.records → length run.start ≤ q / 64
       → moment run m q ≡ false
   moment-past m q l past = false_from_ne_true (moment run m q) (λ on.

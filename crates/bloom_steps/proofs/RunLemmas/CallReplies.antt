@@ -63,7 +63,7 @@ module _ (w k p : ℕ) (s : List Taken) (A : ℕ → Bool) (fits : Fits w A (did
       (may_find_at i t g)).bits q refl
       ∙ steps-none p (take i s) A q (all_decide-take s i q None (contains-all w k p s A h q is))
 
-  -- a position that is off before an insert whose steps all find their bits on is off throughout
+  -- a position that is clear before an insert whose steps all find their bits set stays clear
   stays_off : (h q n : ℕ) → IsScript w k (Insert h) s → A q ≡ false → AllFoundOn w h s
       → n ≤ length s
       → after_records A (did p (take n s)) q ≡ false
@@ -87,7 +87,7 @@ module _ (w k p : ℕ) (s : List Taken) (A : ℕ → Bool) (fits : Fits w A (did
         | inr other ↦ ap (λ o. unwrap_or o (after_records A (did p (take n s)) q)) other.1 ∙ before
       ]
 
-  -- where the steps of an insert found all their bits on, its positions were in the set before
+  -- where the steps of an insert found all their bits set, its positions were in the set before
   insert_all : (h : ℕ) → IsScript w k (Insert h) s → AllFoundOn w h s
       → are_in (64 * w) k h A ≡ true
   insert_all h is all =
@@ -99,7 +99,7 @@ module _ (w k p : ℕ) (s : List Taken) (A : ℕ → Bool) (fits : Fits w A (did
       insert_found h i t.0 is t.1 ∙ stays_off h (place n h i) i is off all (omega arith) in
       both_ways (bit_is_on t.0.found (place n h i)) was (all i t.0 t.1)))
 
-  -- where a step of an insert found its bit off, one of its positions wasn't in the set before
+  -- where a step of an insert found its bit clear, one of its positions wasn't in the set before
   insert_some : (h : ℕ) → IsScript w k (Insert h) s
       → Any s (λ i t. bit_is_on t.found (place (64 * w) h i) ≡ false)
       → are_in (64 * w) k h A ≡ false
@@ -141,7 +141,7 @@ module _ (w k p : ℕ) (s : List Taken) (A : ℕ → Bool) (fits : Fits w A (did
           (λ on. insert_all h is (found_on says tells.1 on))
           (λ off. insert_some h is (tells.0 off)))
 
-  -- where the last step of a look-up found its bit on, its positions were in the set before
+  -- where the last step of a look-up found its bit set, its positions were in the set before
   contains_all : (h m : ℕ) (last : Taken) → IsScript w k (Contains h) s → slice_get s m ≡ Some last
       → m + 1 ≡ length s → bit_is_on last.found (place (64 * w) h m) ≡ true
       → are_in (64 * w) k h A ≡ true

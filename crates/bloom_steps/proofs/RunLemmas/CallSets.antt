@@ -22,7 +22,7 @@ use Rattle.bloom_steps.proofs.RunLemmas.PairSteps.{other-past, pairs-steps}
 use Rattle.bloom_steps.proofs.StepLemmas.Plans.{ReadsNoOther, TurnsBy, TurnsWordOff, made, plan_decides}
 use Rattle.bloom_steps.proofs.StepLemmas.Members.{some_member}
 
--- past the words nothing is on, before a call and after it
+-- past the words nothing is set, before a call and after it
 past : (w p : ℕ) (A : ℕ → Bool) (s : List Taken) (q : ℕ) → Fits w A (did p s) → w ≤ q / 64
     → (A q ≡ false) × (after_records A (did p s) q ≡ false)
 past w p A s q f l = (
@@ -33,7 +33,7 @@ past w p A s q f l = (
 
 -- a script of w words and k hashes, made by a party
 module _ (w k p : ℕ) (s : List Taken) (A : ℕ → Bool) where
-  -- the steps of an insert make its positions on
+  -- the steps of an insert set its positions
   pub insert-all : (h q : ℕ) → IsScript w k (Insert h) s → AllDecide s q (Some true)
   insert-all h q is i t g = elim (or_at-decides (place (64 * w) h i) q) [
     | inl here ↦ inr (ap (λ x. step_decides x q) (is.steps i t g) ∙ here.1)
@@ -44,7 +44,7 @@ module _ (w k p : ℕ) (s : List Taken) (A : ℕ → Bool) where
   pub contains-all : (h q : ℕ) → IsScript w k (Contains h) s → AllDecide s q None
   contains-all h q is i t g = inl (ap (λ x. step_decides x q) (is.steps i t g))
 
-  -- an insert leaves its positions on
+  -- an insert leaves its positions set
   insert-steps : (h q : ℕ) → IsScript w k (Insert h) s
       → after_records A (did p s) q ≡ unwrap_or (made true (positions (64 * w) k h q)) (A q)
   insert-steps h q is = go (positions (64 * w) k h q) refl
@@ -74,7 +74,7 @@ module _ (w k p : ℕ) (s : List Taken) (A : ℕ → Bool) where
         | inr other ↦ inl (ap (λ x. step_decides x q) (is.steps i t g) ∙ other.1)
       ])
 
-  -- one step for each word, which turns it off, leaves nothing on
+  -- one step for each word, which clears it, leaves nothing set
   words-steps : (op : ℕ → Step) → TurnsWordOff op → Each s (λ i t. t.step ≡ op i) → length s ≡ w
       → (q : ℕ) → Fits w A (did p s) → after_records A (did p s) q ≡ false
   words-steps op off steps count q f = elim (cases_lt (q / 64) w) [

@@ -30,7 +30,7 @@ may_find-same A B (Zero i) found same f = f
 may_find-same A B (Other i) found same f = f
 may_find-same A B (Take i) found same f = is_word-same A B i found same f
 
--- records fit a set of w words: they find what is there, and past the words nothing is on
+-- records fit a set of w words: they find what is there, and past the words nothing is set
 pub record Fits (w : ℕ) (A : ℕ → Bool) (rs : List Record) : Type 0 where
   pub finds : FindsWhatIsThere A rs
   pub within : (m q : ℕ) → m ≤ length rs → w ≤ q / 64 → after_records A (take m rs) q ≡ false
@@ -126,7 +126,7 @@ pub steps-some : (p : ℕ) (s : List Taken) (A : ℕ → Bool) (q : ℕ) (d : Op
     → after_records A (did p s) q ≡ unwrap_or d (A q)
 steps-some p s A q d all i t g e = ap (λ o. unwrap_or o (A q)) (decision-some p s q d all i t g e)
 
--- where nothing is made off, what is on stays
+-- where nothing is cleared, what is set stays
 pub steps-on : (p : ℕ) (s : List Taken) (A : ℕ → Bool) (q : ℕ) → AllDecide s q (Some true)
     → A q ≡ true
     → after_records A (did p s) q ≡ true

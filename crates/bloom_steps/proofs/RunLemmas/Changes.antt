@@ -36,14 +36,14 @@ and_cases true true = inl (refl, refl)
 and_cases true false = inr refl
 and_cases false b = inr refl
 
--- the step that turns a position on makes it on
+-- the step that sets a position decides that it is set
 or_at-own : (q : ℕ) → step_decides (or_at q) q ≡ Some true
 or_at-own q =
     ap (λ b. if b && bit_is_on (2 ^ (q % 64)) q then Some true else None)
     (eq-eqb (q / 64) (q / 64) refl)
     ∙ ap (λ b. if b then Some true else None) (own_mask q)
 
--- the step that turns a position on makes it on, and leaves the others
+-- the step that sets a position decides that it is set, and leaves the others
 pub or_at-decides : (q j : ℕ)
     → ((j ≡ q) × (step_decides (or_at q) j ≡ Some true))
     ⊎ ((j ≢ q) × (step_decides (or_at q) j ≡ None))
@@ -65,7 +65,7 @@ or_at-decides q j = elim (eqb_tells j q) [
 abbrev pub DecidesOnly : Option Bool → ℕ → Step → Type 0
 DecidesOnly d q step = (step_decides step q ≡ None) ⊎ (step_decides step q ≡ d)
 
--- a mask that turns bits on makes nothing off
+-- a mask that sets bits decides to clear nothing
 pub or-decides_only : (i mask q : ℕ) → DecidesOnly (Some true) q (Or i mask)
 or-decides_only i mask q = go (nat_eq (q / 64) i && bit_is_on mask q)
   where
@@ -74,18 +74,18 @@ or-decides_only i mask q = go (nat_eq (q / 64) i && bit_is_on mask q)
     go true = inr refl
     go false = inl refl
 
--- a position is turned off by record m
+-- a position is cleared by record m
 abbrev pub TurnsOff : Course → ℕ → ℕ → Type 0
 TurnsOff run m p = (moment run m p ≡ true) × (moment run (m + 1) p ≡ false)
 
 -- a run, whatever its records
 module _ (run : Course) where
-  -- a record that turns a position off is no record that doesn't
+  -- a record that clears a position is no record that doesn't
   pub not_turned_off : (m p : ℕ) → turns_off run m p ≡ false → TurnsOff run m p → ⊥
   not_turned_off m p calm off =
       both_ways (turns_off run m p) calm (and_from (moment run m p) _ off.0 (ap not off.1))
 
-  -- a position that a record turned on was off before, and is on after
+  -- a position that a record set was clear before, and is set after
   pub turned_on : (m p : ℕ) → turns_on run m p ≡ true
       → (moment run m p ≡ false) × (moment run (m + 1) p ≡ true)
   turned_on m p on =
@@ -96,7 +96,7 @@ module _ (run : Course) where
       was true e = absurd (both_ways false refl e)
       was false e = refl
 
-  -- a position that was off before a record and is on after was turned on by it
+  -- a position that was clear before a record and is set after was set by it
   pub turning_on : (m p : ℕ) → moment run m p ≡ false → moment run (m + 1) p ≡ true
       → turns_on run m p ≡ true
   turning_on m p off on = and_from (not (moment run m p)) (moment run (m + 1) p) (ap not off) on
@@ -108,7 +108,7 @@ module _ (run : Course) where
       ap (λ l. after_records (content run.start) l q) (take-more run.records m r at)
       ∙ records-more (content run.start) (take m run.records) r q
 
-  -- what is on stays on where nothing turns it off
+  -- what is set stays set where nothing clears it
   pub persists : (q first n m : ℕ) → m ≡ first + n → moment run first q ≡ true
       → ((j : ℕ) → first ≤ j → j < m → TurnsOff run j q → ⊥) → moment run m q ≡ true
   persists q first zero m e on calm =
@@ -127,7 +127,7 @@ module _ (run : Course) where
 -- a step of a lawful run
 module _ (k : ℕ) (run : Course) (lawful : IsLawful k run) (m party q : ℕ) (t : Taken)
     (at : slice_get run.records m ≡ Some (Did party t.step t.found t.ended)) where
-  -- a step that turns a position on found its bit as it was
+  -- a step that sets a position found its bit as it was
   pub found-or : t.step ≡ or_at q → bit_is_on t.found q ≡ moment run m q
   found-or step =
       let finds = lawful.finds m party t.step t.found t.ended at in
@@ -139,14 +139,14 @@ module _ (k : ℕ) (run : Course) (lawful : IsLawful k run) (m party q : ℕ) (t
       let finds = lawful.finds m party t.step t.found t.ended at in
       (subst (λ x. MayFind (moment run m) x t.found) step finds).bits q refl
 
-  -- what a step that turns a position on does to each
+  -- what a step that sets a position does to each
   pub moment-or : (j : ℕ) → t.step ≡ or_at q
       → moment run (m + 1) j ≡ unwrap_or (step_decides (or_at q) j) (moment run m j)
   moment-or j step =
       moment-more run m (Did party t.step t.found t.ended) j at
       ∙ ap (λ x. unwrap_or (step_decides x j) (moment run m j)) step
 
-  -- a step that turns a position on makes it on
+  -- after a step that sets a position it is set
   pub on-or : t.step ≡ or_at q → moment run (m + 1) q ≡ true
   on-or step = moment-or q step ∙ ap (λ o. unwrap_or o (moment run m q)) (or_at-own q)
 

@@ -47,7 +47,7 @@ module _ (k : ℕ) (run : Course) (lawful : IsLawful k run) (party hash began la
       are_in-off (bits_of run) k hash (moment run last) own.index (omega arith)
       (sym last_look ∙ off)
 
-  -- each step of a look-up that hits found its bit on
+  -- each step of a look-up that hits found its bit set
   found_on : answer ≡ true → (i : ℕ) (t : Taken) → slice_get own.s i ≡ Some t
       → bit_is_on t.found (place (bits_of run) hash i) ≡ true
   found_on hit i t got = elim (eqb_tells (i + 1) (length own.s)) [
@@ -76,7 +76,7 @@ module _ (k : ℕ) (run : Course) (lawful : IsLawful k run) (party hash began la
     | inr l ↦ l
   ]
 
-  -- where a look-up is undisturbed, a bit that it found on is on at its last load
+  -- where a look-up is undisturbed, a bit that it found set is set at its last load
   still_on : IsUndisturbed k run hash began last → (i : ℕ) (t : Taken) → i < k
       → slice_get own.s i ≡ Some t → bit_is_on t.found (place (bits_of run) hash i) ≡ true
       → moment run last (place (bits_of run) hash i) ≡ true

@@ -1,4 +1,4 @@
--- Each position is turned on once.
+-- Each position is set once.
 use Rattle.std.proofs.Common.{◌∙◌, ◌≡◌, Some, ap, arith, length, refl, slice_get, sym, true, ℕ}
 use Rattle.std.proofs.Math.Seq.{take-length}
 use Rattle.std.specs.Prelude.{sum_by}
@@ -25,7 +25,7 @@ hash-adds Union e = e
 hash-adds Intersect e = e
 hash-adds Take e = refl
 
--- nothing is taken and nothing lost, so what is there beyond the start was turned on
+-- nothing is taken and nothing lost, so what is there beyond the start was set by a step
 pub counts_gains : (k : ℕ) (run : Course) → IsLawful k run → CountsGains run
 counts_gains k run lawful hash =
     let each = λ (m : ℕ) (p : ℕ) (call : Call) (g : slice_get run.records m ≡ Some (Began p call)).

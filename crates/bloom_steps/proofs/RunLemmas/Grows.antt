@@ -1,4 +1,4 @@
--- What is on at the end of a growing run.
+-- What is set at the end of a growing run.
 use Rattle.bloom_steps.specs.Plans.{turns_none_off, plan_of, Plan, TurnsOn, LooksAt, EachWord, EachPair}
 use Rattle.bloom_steps.proofs.StepLemmas.Plans.{TurnsBy, ReadsNoOther, PlanDecides, plan_decides, on-does, no-read}
 use Rattle.std.proofs.Common.{refl, ◌*◌, ◌+◌, ◌/◌, ◌↔◌, ◌∙◌, ◌≡◌, ◌⊎◌, List, Some, ap, arith, inl, inr, length, slice_get, subst, sym, true, unwrap_or, ℕ, Bool, false}
@@ -25,7 +25,7 @@ use Rattle.bloom_steps.proofs.RunLemmas.PlacedSteps.{IsPlacedAt}
 use Rattle.bloom_steps.proofs.StepLemmas.Going.{parity}
 use Rattle.bloom_steps.proofs.StepLemmas.Members.{some_member}
 
--- the read of a pair is followed by a step that makes on what it found
+-- the read of a pair is followed by a step that sets what it found
 paired : (op : ℕ → ℕ → Step) (on : Bool) (w q : ℕ) (s : List Taken) (j : ℕ) (t : Taken)
     → TurnsBy op on × ReadsNoOther op → on ≡ true → ArePairs op s → length s ≡ 2 * w
     → slice_get s j ≡ Some t
@@ -48,10 +48,10 @@ paired op on w q s j t does is pairs count g e bit =
           absurd (no-read op does.1 odd.0 v.0.found (q / 64) (sym write ∙ e))
     ]
 
--- a lawful run of calls that turn nothing off
+-- a lawful run of calls that clear nothing
 module _ (k : ℕ) (run : Course) (lawful : IsLawful k run)
     (none_off : EveryCall turns_none_off run.records) where
-  -- a position that a step makes on stays on to the end
+  -- a position that a step sets stays set to the end
   stays : (q m p : ℕ) (step : Step) (found : ℕ) (e : End)
       → slice_get run.records m ≡ Some (Did p step found e)
       → step_decides step q ≡ Some true → content run.words q ≡ true
@@ -72,7 +72,7 @@ module _ (k : ℕ) (run : Course) (lawful : IsLawful k run)
     is_whole p call s kind =
         elim kind [ inl is ↦ is | inr b ↦ absurd (both_ways (runs p run.records) (ended p) b.1) ]
 
-    -- what was inserted is on
+    -- what was inserted is set
     inserted : (q : ℕ) → IsInserted k run q → content run.words q ≡ true
     inserted q x =
         let h = held k run lawful x.m (Began x.party (Insert x.hash)) x.begins in
@@ -97,7 +97,7 @@ module _ (k : ℕ) (run : Course) (lawful : IsLawful k run)
           | inr of ↦ absurd (let e = of.3 in cc)
         ]
 
-    -- what the step after a read makes on is on at the end
+    -- what the step after a read sets is set at the end
     made_on : (q p : ℕ) (plan : Plan) (s : List Taken) (j : ℕ) (t : Taken) → PlanDecides plan
         → turns_none_off plan ≡ true → HasSteps run p s
         → Fulfils (length run.start) k plan s → IsPlacedAt (length run.start) k plan s j t
@@ -113,7 +113,7 @@ module _ (k : ℕ) (run : Course) (lawful : IsLawful k run)
         let n = steps u.0 u.1 u.2 in
         stays q n.0 p u.1.step u.1.found u.1.ended n.1 u.3
 
-    -- what was found on in the other filter is on at the end
+    -- what was found set in the other filter is set at the end
     found_there : (q : ℕ) → IsFoundInOther run q → content run.words q ≡ true
     found_there q x =
         let h = step_held k run lawful x.m x.party (Other (q / 64)) x.found x.ended x.reads in
@@ -124,8 +124,8 @@ module _ (k : ℕ) (run : Course) (lawful : IsLawful k run)
         (is_whole x.party call h.of.s h.of.kind) h.at h.here h.same_step
         (ap (λ f. bit_is_on f q) h.same_found ∙ x.on)
 
-    -- what is on at the end was on at the start, inserted, or found in the other filter; each of
-    -- those is on
+    -- what is set at the end was set at the start, inserted, or found in the other filter; each of
+    -- those is set
     pub on_at_end : (q : ℕ) → (content run.words q ≡ true)
         ↔ ((content run.start q ≡ true) ⊎ (IsInserted k run q ⊎ IsFoundInOther run q))
     on_at_end q = (

@@ -17,11 +17,11 @@ use Rattle.bloom_steps.proofs.RunLemmas.Changes.{same-answer}
 -- an insert of a lawful run, and the script of its own records
 module _ (k : ℕ) (run : Course) (lawful : IsLawful k run) (party hash began last : ℕ)
     (answer : Bool) (own : OwnScript k run party (Insert hash) began last (Answer answer)) where
-  -- whether a step found the bit of its hash off
+  -- whether a step found the bit of its hash clear
   abbrev found_off : ℕ → Taken → Type 0
   found_off i t = bit_is_on t.found (place (bits_of run) hash i) ≡ false
 
-  -- a step that found its bit off turned it on
+  -- a step that found its bit clear set it
   off-turns : (i : ℕ) (t : Taken) → slice_get own.s i ≡ Some t → found_off i t
       → TurnsOneOn run party began last
   off-turns i t here off =
@@ -39,7 +39,7 @@ module _ (k : ℕ) (run : Course) (lawful : IsLawful k run) (party hash began la
         on = turning_on run at.m q was (on-or k run lawful at.m party q t at.is step);
       }
 
-  -- a step that turned some bit on found its own off
+  -- a step that set some bit found its own clear
   turned-off : (i : ℕ) (t : Taken) → slice_get own.s i ≡ Some t → (m p : ℕ)
       → slice_get run.records m ≡ Some (Did party t.step t.found t.ended)
       → turns_on run m p ≡ true
@@ -57,7 +57,7 @@ module _ (k : ℕ) (run : Course) (lawful : IsLawful k run) (party hash began la
       ] in
       found-or k run lawful m party q t at step ∙ was
 
-  -- a step that turned a bit on is one that found its own off
+  -- a step that set a bit is one that found its own clear
   turns-off : TurnsOneOn run party began last → Any own.s found_off
   turns-off turns =
       let made = turns.own in

@@ -5,7 +5,7 @@ use Rattle.std.proofs.lemmas.Nat.{pow_pos}
 use Rattle.std.proofs.lemmas.Nat.Bits.{and_pow, bit_at-lt}
 use Rattle.std.specs.Int.{bit_at}
 
--- a step that turns one bit on found it off exactly if the word has no bit of the mask
+-- a step that sets one bit found it clear exactly if the word has no bit of the mask
 pub found_off-test : (x j : ℕ) → nat_eq (bit_and x (2 ^ j)) 0 ≡ not (nat_eq (bit_at x j) 1)
 found_off-test x j = ap (λ n. nat_eq n 0) (and_pow x j) ∙ go (bit_at x j) (bit_at-lt x j)
   where

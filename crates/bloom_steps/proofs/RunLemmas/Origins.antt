@@ -22,12 +22,12 @@ use Rattle.bloom_steps.proofs.RunLemmas.RecordedCalls.{step_held}
 use Rattle.bloom_steps.proofs.RunLemmas.PlacedSteps.{IsPlacedAt, IsPairAt}
 use Rattle.bloom_steps.proofs.StepLemmas.Deciding.{state-first}
 
--- some record makes a position on
+-- some record decides to set a position
 abbrev pub HasDecider : List Record → ℕ → Type 0
 HasDecider rs q =
     (m : ℕ) × (r : Record) × (slice_get rs m ≡ Some r) × (record_decides r q ≡ Some true)
 
--- a bit that is on was on at the start, or some record decided it so
+-- a bit that is set was set at the start, or some record decided it so
 pub decider : (A : ℕ → Bool) (rs : List Record) (q : ℕ) → after_records A rs q ≡ true
     → (A q ≡ true) ⊎ HasDecider rs q
 decider A [] q on = inl on
@@ -53,7 +53,7 @@ HasSteps run p s =
     (i : ℕ) (t : Taken) → slice_get s i ≡ Some t → (n : ℕ)
     × (slice_get run.records n ≡ Some (Did p t.step t.found t.ended))
 
--- no step of a plan that turns nothing off makes anything off
+-- no step of a plan that clears nothing decides to clear anything
 grows_at : (w k q : ℕ) (plan : Plan) (s : List Taken) (j : ℕ) (t : Taken) → PlanDecides plan
     → turns_none_off plan ≡ true → IsPlacedAt w k plan s j t → DecidesOnly (Some true) q t.step
 grows_at w k q (TurnsOn h) s j t does none at =
@@ -67,10 +67,10 @@ grows_at w k q (EachPair op on) s j t does none at = elim at.either [
       subst (DecidesOnly (Some true) q) (sym u.3) (on-only op on does.0 none at.i u.0.found q)
 ]
 
--- a lawful run of calls that turn nothing off
+-- a lawful run of calls that clear nothing
 module _ (k : ℕ) (run : Course) (lawful : IsLawful k run)
     (none_off : EveryCall turns_none_off run.records) where
-  -- no step makes anything off
+  -- no step decides to clear anything
   pub growing : (q : ℕ) → NoneMakesOff run q
   growing q m p step found e g =
       let h = step_held k run lawful m p step found e g in
@@ -79,7 +79,7 @@ module _ (k : ℕ) (run : Course) (lawful : IsLawful k run)
       (grows_at (length run.start) k q (plan_of h.of.call) h.of.s h.j h.t (plan_decides h.of.call)
       (none_off began.0 p h.of.call began.1) h.at)
 
-  -- what the write of a pair made on was found in the other filter
+  -- what the write of a pair set was found in the other filter
   found_by : (op : ℕ → ℕ → Step) (on : Bool) (q p : ℕ) (s : List Taken) (t : Taken) → TurnsBy op on
       → on ≡ true → HasSteps run p s → IsPairAt (length run.start) op s t
       → step_decides t.step q ≡ Some true → IsFoundInOther run q
@@ -100,7 +100,7 @@ module _ (k : ℕ) (run : Course) (lawful : IsLawful k run)
         }
   ]
 
-  -- what a step made on was inserted, or found in the other filter
+  -- what a step set was inserted, or found in the other filter
   origin : (q p : ℕ) (call : Call) (s : List Taken) (j : ℕ) (t : Taken) → HasBegun run p call
       → HasSteps run p s
       → IsPlacedAt (length run.start) k (plan_of call) s j t → step_decides t.step q ≡ Some true
@@ -127,7 +127,7 @@ module _ (k : ℕ) (run : Course) (lawful : IsLawful k run)
   origin q p Take s j t began steps at e =
       absurd (both_ways false refl (none_off began.0 p Take began.1))
 
-  -- what a record made on was so too
+  -- what a record set was so too
   pub origin_of : (q m : ℕ) (r : Record) → slice_get run.records m ≡ Some r
       → record_decides r q ≡ Some true
       → IsInserted k run q ⊎ IsFoundInOther run q

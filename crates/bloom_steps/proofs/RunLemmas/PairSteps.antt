@@ -99,7 +99,7 @@ module _ (op : ℕ → ℕ → Step) (on : Bool) (by : TurnsBy op on) (plain : R
       (get_or_from_slice_get (other_words s) (q / 64) t.found 0
       (words-at op 0 s plain from_start (q / 64) t g))
 
-  -- past the words the other filter has nothing on
+  -- past the words the other filter has nothing set
   pub other-past : (q : ℕ) → w ≤ q / 64 → content (other_words s) q ≡ false
   other-past q past =
       let count = words-length op 0 s plain from_start in

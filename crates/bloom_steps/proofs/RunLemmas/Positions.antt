@@ -21,7 +21,7 @@ are_in-same n (suc k) hash A B same =
     ap (λ b. b && A (place n hash k)) (are_in-same n k hash A B same)
     ∙ ap (λ b. are_in n k hash B && b) (same (place n hash k))
 
--- truth values that are on together and off together are the same
+-- truth values that are true together and false together are the same
 pub both_alike : (a b : Bool) → (a ≡ true → b ≡ true) → (a ≡ false → b ≡ false) → a ≡ b
 both_alike true b on off = sym (on refl)
 both_alike false b on off = sym (off refl)

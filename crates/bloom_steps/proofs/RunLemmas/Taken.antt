@@ -20,8 +20,8 @@ use Rattle.bloom_steps.proofs.StepLemmas.Members.{some_member}
 module _ (k : ℕ) (run : Course) (lawful : IsLawful k run)
     (each : (m p : ℕ) (call : Call) → slice_get run.records m ≡ Some (Began p call)
     → adds_or_takes call ≡ true) where
-  -- at each moment, the positions of the start and those turned on since are those taken and those
-  -- on
+  -- at each moment, the positions of the start and those set since are those taken and those that
+  -- are set
   balance : (m : ℕ) → m ≤ length run.records → IsBalanced run m
   balance zero l = omega arith
   balance (suc m) l =

@@ -81,7 +81,7 @@ asks-clear = refl
 asks-take : asks (running Take 1 (omega arith)) ≡ Some (step.Take 1)
 asks-take = refl
 
--- a union asks for the other filter's word at an even turn, and to turn on what it read at an odd
+-- a union asks for the other filter's word at an even turn, and to set what it read at an odd
 asks-union : (asks (running Union 2 (omega arith)) ≡ Some (Other 1))
     × (asks (running Union 3 (omega arith)) ≡ Some (Or 1 5))
 asks-union = (refl, refl)
@@ -99,7 +99,7 @@ asks-ended = refl
 answers-running : answers (running (Insert 1) 1 (omega arith)) ≡ None
 answers-running = refl
 
--- an insert and a look-up that have ended answer whether their bits were on, the others nothing
+-- an insert and a look-up that have ended answer whether their bits were set, the others nothing
 answers-ended : (answers (over (Insert 1) true) ≡ Some true)
     × (answers (over (Insert 1) false) ≡ Some false)
     × (answers (over (Contains 1) true) ≡ Some true)

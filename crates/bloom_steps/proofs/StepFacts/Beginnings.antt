@@ -40,7 +40,7 @@ pub next-second : IsNext 1 2 (Insert 1) (took (Or 0 1) 1 Running ∷ []) (Or 0 1
 unfolding chain
 next-second t rest is = is.steps 1 t refl
 
--- an insert doesn't turn on the bit of its first place again
+-- an insert doesn't set the bit of its first place again
 next-again : IsNext 1 2 (Insert 1) (took (Or 0 1) 1 Running ∷ []) (Or 0 1) → ⊥
 next-again next = let step = next _ _ insert-script in cc
 

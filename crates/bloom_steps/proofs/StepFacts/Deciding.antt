@@ -25,17 +25,17 @@ load-place = refl
 load-decides : step_decides (Load 1) 64 ≡ None
 load-decides = refl
 
--- an or on word 1 turns on the bits of its mask in that word alone
+-- an or on word 1 sets the bits of its mask in that word alone
 or-decides : (step_decides (Or 1 5) 64 ≡ Some true) × (step_decides (Or 1 5) 66 ≡ Some true)
     × (step_decides (Or 1 5) 65 ≡ None) × (step_decides (Or 1 5) 0 ≡ None)
 or-decides = (refl, refl, refl, refl)
 
--- an and on word 1 turns off the bits that its mask lacks in that word alone
+-- an and on word 1 clears the bits that its mask lacks in that word alone
 and-decides : (step_decides (And 1 5) 65 ≡ Some false) × (step_decides (And 1 5) 127 ≡ Some false)
     × (step_decides (And 1 5) 64 ≡ None) × (step_decides (And 1 5) 1 ≡ None)
 and-decides = (refl, refl, refl, refl)
 
--- a step that zeroes word 1 turns off each bit of that word and no other
+-- a step that zeroes word 1 clears each bit of that word and no other
 zero-decides : (step_decides (Zero 1) 64 ≡ Some false) × (step_decides (Zero 1) 127 ≡ Some false)
     × (step_decides (Zero 1) 63 ≡ None) × (step_decides (Zero 1) 128 ≡ None)
 zero-decides = (refl, refl, refl, refl)
@@ -44,7 +44,7 @@ zero-decides = (refl, refl, refl, refl)
 other-decides : step_decides (Other 1) 64 ≡ None
 other-decides = refl
 
--- a step that takes word 1 turns off each bit of that word and no other
+-- a step that takes word 1 clears each bit of that word and no other
 take-decides : (step_decides (Take 1) 64 ≡ Some false) × (step_decides (Take 1) 127 ≡ Some false)
     × (step_decides (Take 1) 63 ≡ None) × (step_decides (Take 1) 128 ≡ None)
 take-decides = (refl, refl, refl, refl)
@@ -61,13 +61,13 @@ did-decides = refl
 abbrev all : ℕ → Bool
 all p = true
 
--- after a zero and an or of bit 2 that bit is on, bit 1 is off, and another word is as it was
+-- after a zero and an or of bit 2 that bit is set, bit 1 is clear, and another word is as it was
 set-after : (after_records all (Did 0 (Zero 0) 0 Done ∷ Did 1 (Or 0 4) 0 Done ∷ []) 2 ≡ true)
     × (after_records all (Did 0 (Zero 0) 0 Done ∷ Did 1 (Or 0 4) 0 Done ∷ []) 1 ≡ false)
     × (after_records all (Did 0 (Zero 0) 0 Done ∷ Did 1 (Or 0 4) 0 Done ∷ []) 64 ≡ true)
 set-after = (refl, refl, refl)
 
--- the same steps the other way round leave bit 2 off
+-- the same steps the other way round leave bit 2 clear
 set-after_reversed :
     after_records all (Did 1 (Or 0 4) 0 Done ∷ Did 0 (Zero 0) 0 Done ∷ []) 2 ≡ false
 set-after_reversed = refl

@@ -1,14 +1,11 @@
 -- Where a machine stands, what it asks and answers, and what is near that and doesn't hold.
-use Rattle.std.proofs.Common.{◌≡◌, ◌∷◌, [], ℕ, None, Some, true, false, refl, arith, inl, lit<, ◌+◌, ◌*◌, ◌/◌, ◌%◌, ◌^◌, ◌∙◌, ◌<◌, ap, sym, subst, add-one}
+use Rattle.std.proofs.Common.{◌∷◌, [], ℕ, None, Some, true, false, refl, arith, inl, lit<, ◌+◌, ◌*◌, ◌/◌, ◌%◌, ◌^◌, ◌∙◌, ◌<◌, ap, sym, add-one}
 use Rattle.std.specs.Int.{rotate_left, w64}
 use Rattle.bloom_parts.specs.Places.{place}
-use Rattle.bloom_steps.specs.declared.steps.vocabulary.Step.{Step}
-use Rattle.bloom_steps.specs.Steps.{word_index}
-use Rattle.bloom_steps.specs.Standing as Standing
 use Rattle.bloom_steps.specs.Standing.{Replied}
-use Rattle.std.proofs.lemmas.Option.{none-some, same_Some}
-use Rattle.bloom_steps.proofs.StepLemmas.Replying.{stands-more}
-use Rattle.bloom_steps.proofs.StepLemmas.Asking.{asks_after}
+use Rattle.std.proofs.lemmas.Option.{none-some}
+use Rattle.bloom_steps.proofs.StepLemmas.Replying.{stands_further}
+use Rattle.bloom_steps.proofs.StepLemmas.Asking.{asks_right}
 use Rattle.bloom_parts.specs.Chain.{chain, added_of}
 use Rattle.bloom_steps.specs.declared.steps.vocabulary.Step.TheVariants.{Load, Or}
 use Rattle.bloom_steps.specs.declared.steps.vocabulary.Call.TheVariants.{Insert}
@@ -39,7 +36,7 @@ begun = record {
   room = λ e. omega arith;
 }
 
--- an insert of hash 1 after a step that found its bit on
+-- an insert of hash 1 after a step that found its bit set
 abbrev pub further : Machine
 further = record begun {
   turn = 1;
@@ -84,7 +81,7 @@ stands-further st = omega (arith, st.turns)
 -- after a step a machine stands one step further on
 replied : StandsFurther begun 1 further
 unfolding chain
-replied w k call s step asked st = stands-more begun further w k 1 call s step asked next st
+replied = stands_further begun further 1 next
   where
     on : ℕ → ℕ
     on x = (rotate_left w64 x 5 + added_of 1) % 2 ^ 64
@@ -114,10 +111,7 @@ replied-nothing next = omega (arith, (next 1 2 (Insert 1) [] (Or 0 1) refl stand
 
 -- wherever the machine stands it asks for the bit of its place
 asks : AsksRight begun (Some (Or 0 1))
-asks w k call s st = asks_after begun w k call s (Some (Or 0 1)) refl within st
-  where
-    within : (step : Step) → Standing.asks begun ≡ Some step → word_index step < 1
-    within step e = subst (λ x. word_index x < 1) (same_Some (Or 0 1) step e) (omega arith)
+asks = asks_right begun (Some (Or 0 1)) refl
 
 -- an insert doesn't ask for a load
 asks-load : AsksRight begun (Some (Load 0)) → ⊥
@@ -132,7 +126,7 @@ asks-load asks =
 answers : AnswersRight begun None
 answers w k call s st = record { says = sym st.said; begun = λ b. refl }
 
--- a new machine doesn't answer that all was on
+-- a new machine doesn't answer that all bits were set
 answers-true_early : AnswersRight begun (Some true) → ⊥
 answers-true_early answers = let says = (answers 1 2 (Insert 1) [] stands).says in cc
 

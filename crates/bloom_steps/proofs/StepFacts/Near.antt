@@ -12,11 +12,11 @@ use Rattle.bloom_steps.proofs.StepFacts.Members.{each-member, took}
 use Rattle.bloom_steps.proofs.StepFacts.Pairs.{union}
 use Rattle.bloom_steps.proofs.StepFacts.Scripts.{contains, insert}
 
--- an insert that found both its bits on, and answers false
+-- an insert that found both its bits set, and answers false
 abbrev known : List Taken
 known = took (Or 0 1) 1 Running ∷ took (Or 0 1048576) 1048577 (Answer false) ∷ []
 
--- an insert that found each bit on doesn't answer false
+-- an insert that found each bit set doesn't answer false
 insert_false : IsScript 1 2 (Insert 1) known → ⊥
 unfolding chain
 insert_false is =
@@ -41,13 +41,13 @@ contains_another_word : IsScript 2 3 (Contains 1)
 unfolding chain
 contains_another_word is = let step = is.steps 2 _ refl in cc
 
--- a look-up turns nothing on
+-- a look-up sets nothing
 contains_writes : IsScript 1 2 (Contains 1)
     (took (Or 0 1) 1 Running ∷ took (Load 0) 1048577 (Answer true) ∷ []) → ⊥
 unfolding chain
 contains_writes is = let step = is.steps 0 _ refl in cc
 
--- a look-up that found its last bit on doesn't answer false
+-- a look-up that found its last bit set doesn't answer false
 contains_false : IsScript 1 2 (Contains 1)
     (took (Load 0) 1 Running ∷ took (Load 0) 1048577 (Answer false) ∷ []) → ⊥
 unfolding chain
@@ -59,7 +59,7 @@ contains_done : IsScript 1 2 (Contains 1)
 unfolding chain
 contains_done is = let last = is.last 1 _ refl refl 1 _ refl refl in cc
 
--- a clear turns off each word once
+-- a clear clears each word once
 clear_again : IsScript 2 2 Clear (took (Zero 0) 0 Running ∷ took (Zero 0) 0 Done ∷ []) → ⊥
 clear_again is = let step = is.steps 1 _ refl in cc
 

@@ -66,7 +66,7 @@ union_another_mask is = let step = is.steps.writes 0 _ _ refl refl in cc
 union_own_word : IsScript 1 2 Union (took (Load 0) 5 Running ∷ took (Or 0 5) 0 Done ∷ []) → ⊥
 union_own_word is = let step = is.steps.loads 0 _ refl in cc
 
--- a union turns nothing off
+-- a union clears nothing
 union_intersects : IsScript 1 2 Union (took (Other 0) 5 Running ∷ took (And 0 5) 0 Done ∷ []) → ⊥
 union_intersects is = let step = is.steps.writes 0 _ _ refl refl in cc
 
@@ -84,7 +84,7 @@ intersect-script = record {
   last = each-member _ intersect ((λ l. absurd (omega (arith, l))), ((λ l. refl), tt));
 }
 
--- an intersection turns nothing on
+-- an intersection sets nothing
 intersect_unites : IsScript 1 2 Intersect
     (took (Other 0) 5 Running ∷ took (Or 0 5) 6 Done ∷ []) → ⊥
 intersect_unites is = let step = is.steps.writes 0 _ _ refl refl in cc

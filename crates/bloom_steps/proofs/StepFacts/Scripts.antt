@@ -9,7 +9,7 @@ use Rattle.bloom_steps.specs.Scripts.{Taken, IsScript}
 use Rattle.bloom_steps.proofs.StepFacts.Members.{each-member, took}
 use Rattle.bloom_steps.proofs.StepLemmas.Finding.{ends-off}
 
--- an insert of a hash whose first bit was on and whose second was off
+-- an insert of a hash whose first bit was set and whose second was clear
 abbrev pub insert : List Taken
 insert = took (Or 0 1) 1 Running ∷ took (Or 0 1048576) 1 (Answer false) ∷ []
 
@@ -26,7 +26,7 @@ insert-script = record {
       ((λ l. absurd (omega (arith, l))), ((λ l. ends-off 1 1 insert 1 _ refl refl), tt));
 }
 
--- an insert that found a bit off doesn't answer true
+-- an insert that found a bit clear doesn't answer true
 insert_true : IsScript 1 2 (Insert 1)
     (took (Or 0 1) 1 Running ∷ took (Or 0 1048576) 1 (Answer true) ∷ []) → ⊥
 unfolding chain
@@ -34,11 +34,11 @@ insert_true is =
     let last = is.last 1 _ refl refl in
     let off = last.2.1 (1, took (Or 0 1048576) 1 (Answer true), refl, refl) in cc
 
--- an insert makes a step for each hash, though it turned a bit on
+-- an insert makes a step for each hash, though it set a bit
 insert_short : IsScript 1 2 (Insert 1) (took (Or 0 1) 0 (Answer false) ∷ []) → ⊥
 insert_short is = omega (arith, is.count)
 
--- each step of an insert turns on the bit of its own place
+-- each step of an insert sets the bit of its own place
 insert_another_bit : IsScript 1 2 (Insert 1)
     (took (Or 0 1) 1 Running ∷ took (Or 0 1) 1 (Answer true) ∷ []) → ⊥
 unfolding chain
@@ -49,7 +49,7 @@ insert_ended_twice : IsScript 1 2 (Insert 1)
     (took (Or 0 1) 1 Done ∷ took (Or 0 1048576) 1 (Answer false) ∷ []) → ⊥
 insert_ended_twice is = let runs = is.running 0 _ refl (omega arith) in cc
 
--- a look-up that found both bits on
+-- a look-up that found both bits set
 abbrev pub contains : List Taken
 contains = took (Load 0) 1 Running ∷ took (Load 0) 1048577 (Answer true) ∷ []
 
@@ -76,11 +76,11 @@ contains-script = record {
       );
 }
 
--- a look-up that ends where it finds a bit off
+-- a look-up that ends where it finds a bit clear
 abbrev contains_off : List Taken
 contains_off = took (Load 0) 1048576 (Answer false) ∷ []
 
--- one load that found its bit off is a whole look-up
+-- one load that found its bit clear is a whole look-up
 contains_off-script : IsScript 1 2 (Contains 1) contains_off
 unfolding chain
 contains_off-script = record {
@@ -94,18 +94,18 @@ contains_off-script = record {
   last = each-member _ contains_off ((λ l. each-member _ contains_off ((λ m. refl), tt)), tt);
 }
 
--- a look-up doesn't go on past a bit that is off
+-- a look-up doesn't go on past a bit that is clear
 contains_past_off : IsScript 1 2 (Contains 1)
     (took (Load 0) 1048576 Running ∷ took (Load 0) 1048576 (Answer true) ∷ []) → ⊥
 unfolding chain
 contains_past_off is = let on = is.stops.earlier 0 _ refl (omega arith) in cc
 
--- a look-up doesn't end early where the bit is on
+-- a look-up doesn't end early where the bit is set
 contains_early : IsScript 1 2 (Contains 1) (took (Load 0) 1 (Answer true) ∷ []) → ⊥
 unfolding chain
 contains_early is = let off = is.stops.early 0 _ refl refl (omega arith) in cc
 
--- a look-up that found its last bit off doesn't answer true
+-- a look-up that found its last bit clear doesn't answer true
 contains_true : IsScript 1 2 (Contains 1) (took (Load 0) 1048576 (Answer true) ∷ []) → ⊥
 unfolding chain
 contains_true is = let last = is.last 0 _ refl refl 0 _ refl refl in cc

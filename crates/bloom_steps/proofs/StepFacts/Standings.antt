@@ -39,12 +39,12 @@ stands-place_contains :
 unfolding chain
 stands-place_contains st = let here : ◌≡◌ {A = ℕ} 1 0 = st.placed.here in omega (arith, here)
 
--- an insert that found a bit off doesn't keep that all were on
+-- an insert that found a bit clear doesn't keep that all were set
 stands-all_on : StandsAt further 1 2 (Insert 1) (took (Or 0 1) 0 Running ∷ []) → ⊥
 unfolding chain
 stands-all_on st = let off = st.keeps.1 (0, took (Or 0 1) 0 Running, refl, refl) in cc
 
--- an insert that found its bits on doesn't keep that one was off
+-- an insert that found its bits set doesn't keep that one was clear
 stands-not_all_on :
     StandsAt (record further { all_on = false }) 1 2 (Insert 1) (took (Or 0 1) 1 Running ∷ []) → ⊥
 unfolding chain
@@ -71,7 +71,7 @@ stands-another_step st = let step = (st.goes_on refl).steps 0 _ refl in cc
 stands-ended : StandsAt further 1 2 (Insert 1) (took (Or 0 1) 1 Done ∷ []) → ⊥
 stands-ended st = let runs = (st.goes_on refl).running 0 _ refl in cc
 
--- a look-up that found a bit off doesn't run on
+-- a look-up that found a bit clear doesn't run on
 stands-past_off :
     StandsAt (record further { call = Contains 1; room = λ e. omega arith }) 1 2 (Contains 1)
     (took (Load 0) 0 Running ∷ []) → ⊥

@@ -31,7 +31,7 @@ load-past m = omega (arith, m.within)
 load-writes : Moves (memory 9) (Load 0) 9 (memory 8) → ⊥
 load-writes m = let words = m.writes in cc
 
--- a mask turns bits on, and finds the word as it was
+-- a mask sets bits, and finds the word as it was
 or-moves : Moves (memory 9) (Or 0 3) 9 (memory 11)
 or-moves = record { within = omega arith; finds = refl; writes = refl; kept = refl }
 
@@ -39,19 +39,19 @@ or-moves = record { within = omega arith; finds = refl; writes = refl; kept = re
 or-late : Moves (memory 9) (Or 0 3) 11 (memory 11) → ⊥
 or-late m = omega (arith, m.finds)
 
--- an or keeps the bits that were on
+-- an or keeps the bits that were set
 or-mask : Moves (memory 9) (Or 0 3) 9 (memory 3) → ⊥
 or-mask m = let words = m.writes in cc
 
--- a mask turns off what it lacks
+-- a mask clears what it lacks
 and-moves : Moves (memory 9) (And 0 3) 9 (memory 1)
 and-moves = record { within = omega arith; finds = refl; writes = refl; kept = refl }
 
--- an and doesn't turn off what its mask has
+-- an and doesn't clear what its mask has
 and-without : Moves (memory 9) (And 0 3) 9 (memory 8) → ⊥
 and-without m = let words = m.writes in cc
 
--- a whole word is turned off, and 0 is found
+-- a whole word is cleared, and 0 is found
 zero-moves : Moves (memory 9) (Zero 0) 0 (memory 0)
 zero-moves = record { within = omega arith; finds = refl; writes = refl; kept = refl }
 
@@ -95,7 +95,7 @@ union-unlinked link =
 union-made : MemoryLaw → Makes (memory 0) union (memory 5)
 union-made law = law (memory 0) (memory 5) union union-linked
 
--- a position that the last decider of a union makes on isn't off
+-- a position that the last decider of a union sets isn't clear
 union-unmade : Makes (memory 0) union (memory 4) → ⊥
 unfolding content
 union-unmade made = let off = made.set 0 in cc

@@ -21,7 +21,7 @@ found = (refl, refl, refl, refl, refl, refl)
 load-leaves : words_after_step two (Load 1) ≡ 9 ∷ 12 ∷ []
 load-leaves = refl
 
--- an or turns on the bits of its mask in its own word
+-- an or sets the bits of its mask in its own word
 or-leaves : words_after_step two (Or 1 3) ≡ 9 ∷ 15 ∷ []
 or-leaves = refl
 
@@ -29,7 +29,7 @@ or-leaves = refl
 and-leaves : words_after_step two (And 1 6) ≡ 9 ∷ 4 ∷ []
 and-leaves = refl
 
--- a zero turns its own word off
+-- a zero clears its own word
 zero-leaves : words_after_step two (Zero 1) ≡ 9 ∷ 0 ∷ []
 zero-leaves = refl
 
@@ -37,7 +37,7 @@ zero-leaves = refl
 other-leaves : words_after_step two (Other 1) ≡ 9 ∷ 12 ∷ []
 other-leaves = refl
 
--- a take turns its own word off
+-- a take clears its own word
 take-leaves : words_after_step two (Take 1) ≡ 9 ∷ 0 ∷ []
 take-leaves = refl
 

@@ -2,18 +2,19 @@
 use Rattle.std.proofs.Common.{◌%◌, ◌*◌, ◌+◌, ◌/◌, ◌<◌, ◌∙◌, ◌≡◌, ◌≤◌, Bool, List, None, Option, Some, ap, arith, false, if◌then◌else◌, inl, inr, length, refl, subst, sym, true, ℕ}
 use Rattle.std.proofs.lemmas.Option.{none-some, same_Some}
 use Rattle.bloom_steps.specs.declared.steps.vocabulary.Call.{Call}
-use Rattle.bloom_steps.specs.Plans.{EachPair, EachWord, LooksAt, Plan, TurnsOn, plan_of}
+use Rattle.bloom_steps.specs.declared.steps.vocabulary.Call.TheVariants.{Clear, Contains, Insert, Intersect, Take, Union}
+use Rattle.bloom_steps.specs.Plans.{EachPair, EachWord, LooksAt, Plan, TurnsOn, most_steps, plan_of}
 use Rattle.bloom_steps.specs.declared.steps.vocabulary.Step.{Step}
-use Rattle.bloom_steps.specs.declared.steps.vocabulary.Step.TheVariants.{Other}
+use Rattle.bloom_steps.specs.declared.steps.vocabulary.Step.TheVariants.{And, Or, Other}
 use Rattle.bloom_steps.specs.declared.steps.machine.Machine.{Machine}
-use Rattle.bloom_steps.specs.Standing.{HoldsOther, StandsAt, asks, next_of_pairs, next_step, IsPlaced, Keeps}
+use Rattle.bloom_steps.specs.Standing.{HoldsOther, StandsAt, answers, asks, next_of_pairs, next_step, IsPlaced, Keeps}
 use Rattle.bloom_steps.specs.Scripts.{Taken}
 use Rattle.bloom_steps.specs.Steps.{load_at, or_at, word_index}
-use Rattle.bloom_steps.specs.Machines.{AsksAfter}
+use Rattle.bloom_steps.specs.Machines.{AnswersRight, AsksAfter, AsksRight}
 use Rattle.bloom_steps.proofs.StepLemmas.Completing.{finish}
 use Rattle.bloom_steps.proofs.StepLemmas.Going.{is_next}
 use Rattle.bloom_steps.proofs.StepLemmas.Growing.{FitsNext, IsNextOfPairs}
-use Rattle.bloom_steps.proofs.StepLemmas.Whole.{not_both}
+use Rattle.bloom_steps.proofs.StepLemmas.Whole.{answer_of-beginning, not_both}
 
 -- whether a number is even, and its half
 half-even : (n i : ℕ) → n ≡ 2 * i → (n % 2 ≡ 0) × (n / 2 ≡ i)
@@ -33,6 +34,27 @@ pair_fits op m s turn holds = (
       let found = holds i t e g in
       rw half.0 (ap (λ j. op j m.other) half.1 ∙ ap (λ x. op i x) found)),
 )
+
+-- a step of a pair is on its word
+pair_on_word : (first : Bool) (op : ℕ → ℕ → Step) (i x n : ℕ) → word_index (op i x) ≡ i → i < n
+    → word_index (if first then Other i else op i x) < n
+pair_on_word true op i x n at less = less
+pair_on_word false op i x n at less = rw (at) less
+
+-- the next step of a machine that goes on is on one of its words
+on_word : (m : Machine) (call : Call) → m.call ≡ call → m.ended ≡ false
+    → word_index (next_step (plan_of call) m) < m.num_words
+on_word m call is going = go call (subst (λ c. m.turn < most_steps m.num_words m.num_hashes
+    (plan_of c)) is (m.room going))
+  where
+    go : (call : Call) → m.turn < most_steps m.num_words m.num_hashes (plan_of call)
+        → word_index (next_step (plan_of call) m) < m.num_words
+    go (Insert hash) room = omega (arith, m.within)
+    go (Contains hash) room = omega (arith, m.within)
+    go Clear room = room
+    go Union room = pair_on_word _ Or (m.turn / 2) m.other _ refl (omega (arith, room))
+    go Intersect room = pair_on_word _ And (m.turn / 2) m.other _ refl (omega (arith, room))
+    go Take room = room
 
 -- a machine and the steps so far
 module _ (m : Machine) (w k : ℕ) where
@@ -62,9 +84,8 @@ module _ (m : Machine) (w k : ℕ) where
 
   -- what is asked is the next step of a beginning, and after a whole script nothing
   pub asks_after : (call : Call) (s : List Taken) (asked : Option Step) → asked ≡ asks m
-      → ((step : Step) → asks m ≡ Some step → word_index step < m.num_words) → StandsAt m w k call s
-      → AsksAfter w k call s asked
-  asks_after call s asked is_asked within st = go m.ended refl
+      → StandsAt m w k call s → AsksAfter w k call s asked
+  asks_after call s asked is_asked st = go m.ended refl
     where
       some_words : 1 ≤ w
       some_words = subst (λ n. 1 ≤ n) st.words m.some_words
@@ -92,10 +113,21 @@ module _ (m : Machine) (w k : ℕ) where
               step = step;
               asks_it = is_asked ∙ asks_it;
               next = is_next w k call s step (fits_asked call s step st asks_it).1;
-              within = subst (λ n. word_index step < n) st.words (within step asks_it);
+              within = subst (λ n. word_index step < n) st.words (on_word m m.call refl is);
             };
             over = λ whole. absurd (not_both w k call s some_words some_hashes whole begun);
           }
+
+-- what a machine asks for is right, wherever it stands
+pub asks_right : (m : Machine) (asked : Option Step) → asked ≡ asks m → AsksRight m asked
+asks_right m asked is_asked w k call s st = asks_after m w k call s asked is_asked st
+
+-- what a machine replies is right, wherever it stands
+pub answers_right : (m : Machine) (answer : Option Bool) → answer ≡ answers m
+    → AnswersRight m answer
+answers_right m answer is w k call s st =
+    let says = is ∙ sym st.said in
+    record { says = says; begun = λ begun. says ∙ answer_of-beginning w k call s begun }
 
 -- a step that is asked for is the next, and on one of the words
 pub asked-within : (w k : ℕ) (call : Call) (s : List Taken) (step : Step)

@@ -33,7 +33,7 @@ place-at w n hash i h word bit all here is_word is_bit =
 bit-at : (p bit found : ℕ) → bit ≡ p % 64 → (bit_at found bit == 1) ≡ bit_is_on found p
 bit-at p bit found is = ap (λ b. bit_at found b == 1) is
 
--- whether a step at each place of a hash so far found its bit on
+-- whether a step at each place of a hash so far found its bit set
 abbrev pub TellsOn : ℕ → ℕ → Bool → List Taken → Type 0
 TellsOn w hash all s =
     (all ≡ false) ↔ Any s (λ i t. bit_is_on t.found (place (64 * w) hash i) ≡ false)

@@ -26,13 +26,13 @@ any_split s t P (i, u, here, has) =
       | inr q ↦ inr (subst (λ j. P j t) q.0 (subst (λ v. P i v) q.1 has))
     ]
 
--- where a step found its bit off, turning on a hash ends with false
+-- where a step found its bit clear, setting the positions of a hash ends with false
 pub ends-off : (w hash : ℕ) (s : List Taken) (i : ℕ) (t : Taken) → slice_get s i ≡ Some t
     → bit_is_on t.found (place (64 * w) hash i) ≡ false
     → IsLastEnd w (TurnsOn hash) s (Answer false)
 ends-off w hash s i t here off = (false, refl, ((λ _. (i, t, here, off)), (λ _. refl)))
 
--- whether all bits were on, after one more
+-- whether all bits were set, after one more
 pub all_on-more : (s : List Taken) (t : Taken) (f : ℕ → Taken → Bool) (before after : Bool)
     → ((before ≡ false) ↔ Any s (λ i t. f i t ≡ false)) → after ≡ (before && f (length s) t)
     → (after ≡ false) ↔ Any (s ++ t ∷ []) (λ i t. f i t ≡ false)

@@ -11,17 +11,17 @@ use Rattle.bloom_steps.specs.Plans.{EachPair, EachWord, LooksAt, Plan, TurnsOn, 
 use Rattle.bloom_steps.specs.Sequences.{found_in_other}
 use Rattle.bloom_steps.specs.Steps.{step_decides}
 
--- what a step that turns bits on, or else off, makes of a bit of the word that it was given
+-- what a step that sets bits, or else clears them, makes of a bit of the word that it was given
 abbrev pub made : Bool → Bool → Option Bool
 made true b = if b then Some true else None
 made false b = if b then None else Some false
 
--- an operation on a word turns its bits off
+-- an operation on a word clears its bits
 abbrev pub TurnsWordOff : (ℕ → Step) → Type 0
 TurnsWordOff op =
     (i q : ℕ) → step_decides (op i) q ≡ (if nat_eq (q / 64) i then Some false else None)
 
--- an operation with a word turns bits on where the word's are, or else off where they aren't
+-- an operation with a word sets the bits that are set there, or else clears those that aren't
 abbrev pub TurnsBy : (ℕ → ℕ → Step) → Bool → Type 0
 TurnsBy op on =
     (i x q : ℕ) → step_decides (op i x) q
@@ -38,7 +38,7 @@ PlanDecides (LooksAt h) = Unit {0}
 PlanDecides (EachWord op) = TurnsWordOff op
 PlanDecides (EachPair op on) = TurnsBy op on × ReadsNoOther op
 
--- a mask turns on what it has
+-- a mask sets what it has
 by-or : TurnsBy Or true
 by-or i x q = go (nat_eq (q / 64) i) (bit_is_on x q)
   where
@@ -46,7 +46,7 @@ by-or i x q = go (nat_eq (q / 64) i) (bit_is_on x q)
     go true b = refl
     go false b = refl
 
--- an and turns off what its mask lacks
+-- an and clears what its mask lacks
 by-and : TurnsBy And false
 by-and i x q = go (nat_eq (q / 64) i) (bit_is_on x q)
   where
@@ -65,7 +65,7 @@ plan_decides Union = (by-or, (λ i x found. refl))
 plan_decides Intersect = (by-and, (λ i x found. refl))
 plan_decides Take = λ i q. refl
 
--- an operation that turns bits on makes no other decision
+-- an operation that sets bits makes no other decision
 pub on-only : (op : ℕ → ℕ → Step) (on : Bool) → TurnsBy op on → on ≡ true → (i x q : ℕ)
     → (step_decides (op i x) q ≡ None) ⊎ (step_decides (op i x) q ≡ Some true)
 on-only op on by is i x q =
@@ -83,7 +83,7 @@ on-only op on by is i x q =
     go true false = inl refl
     go false b = inl refl
 
--- an operation that turns bits on turns on a position of its word that the word given has
+-- what an operation that sets bits sets is a position of its word that the word given has
 pub on-tells : (op : ℕ → ℕ → Step) (on : Bool) → TurnsBy op on → on ≡ true → (i x q : ℕ)
     → step_decides (op i x) q ≡ Some true → (q / 64 ≡ i) × (bit_is_on x q ≡ true)
 on-tells op on by is i x q e =
@@ -97,7 +97,7 @@ on-tells op on by is i x q e =
     go true false f = absurd (none-some true f)
     go false b f = absurd (none-some true f)
 
--- an operation that turns bits on turns on each position of its word that the word given has
+-- an operation that sets bits sets each position of its word that the word given has
 pub on-does : (op : ℕ → ℕ → Step) (on : Bool) → TurnsBy op on → on ≡ true → (i x q : ℕ)
     → q / 64 ≡ i → bit_is_on x q ≡ true → step_decides (op i x) q ≡ Some true
 on-does op on by is i x q at bit =
@@ -108,7 +108,7 @@ on-does op on by is i x q at bit =
 pub no-read : (op : ℕ → ℕ → Step) → ReadsNoOther op → (i x j : ℕ) → op i x ≡ Other j → ⊥
 no-read op plain i x j e = let none = sym (ap (λ s. found_in_other s 0) e) ∙ plain i x 0 in cc
 
--- a plan that goes by a hash turns nothing off
+-- a plan that goes by a hash clears nothing
 pub hash-grows : (plan : Plan) → goes_by_hash plan ≡ true → turns_none_off plan ≡ true
 hash-grows (TurnsOn h) e = refl
 hash-grows (LooksAt h) e = refl

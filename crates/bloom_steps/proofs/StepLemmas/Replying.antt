@@ -13,6 +13,7 @@ use Rattle.bloom_steps.specs.Standing.{HoldsOther, IsAtPlace, IsPlaced, Keeps, S
 use Rattle.bloom_steps.specs.Plans.{most_steps}
 use Rattle.bloom_steps.specs.Scripts.{Taken, answer_of, answer_of_end}
 use Rattle.bloom_steps.specs.Standing.{Learns, MovesOn, Replied, ends_with}
+use Rattle.bloom_steps.specs.Machines.{StandsFurther}
 use Rattle.bloom_steps.proofs.StepLemmas.Asking.{fits_asked}
 use Rattle.bloom_steps.proofs.StepLemmas.Growing.{EndsNext, KeepsOnAt, goes_on-more, length-more, script-more}
 use Rattle.bloom_steps.proofs.StepLemmas.Members.{member-seam, member_of_more}
@@ -174,3 +175,8 @@ module _ (m n : Machine) (w k : ℕ) where
             (ends plan s t stood learns ends_now over (ap end over ∙ answer));
         said = answer_of-more s t ∙ answer-end_of (plan_of n.call) n.ended n.all_on;
       }
+
+-- a machine that was replied stands one step further on, wherever it stands
+pub stands_further : (m n : Machine) (found : ℕ) → Replied m found n → StandsFurther m found n
+stands_further m n found replied w k call s step asked st =
+    stands-more m n w k found call s step asked replied st

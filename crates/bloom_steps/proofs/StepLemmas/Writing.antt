@@ -11,14 +11,14 @@ use Rattle.bloom_steps.specs.Scripts.{Taken}
 use Rattle.bloom_steps.specs.Steps.{step_decides, word_index}
 use Rattle.bloom_steps.proofs.StepLemmas.Deciding.{state-first, state-same}
 
--- a bit that is or-ed is on where a decision to turn it on is made, and else as it was
+-- a bit that is or-ed is set where a decision to set it is made, and else as it was
 or-decides : (a b : Bool) → (a || b) ≡ unwrap_or (if b then Some true else None) a
 or-decides true true = refl
 or-decides true false = refl
 or-decides false true = refl
 or-decides false false = refl
 
--- a bit that is and-ed is off where a decision to turn it off is made, and else as it was
+-- a bit that is and-ed is clear where a decision to clear it is made, and else as it was
 and-decides : (a b : Bool) → (a && b) ≡ unwrap_or (if not b then Some false else None) a
 and-decides true true = refl
 and-decides true false = refl

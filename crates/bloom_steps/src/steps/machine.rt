@@ -88,15 +88,6 @@ impl Machine {
         ensures value { result ≡ asks self.now }
         ensures next { AsksRight self.now result }
     {
-        self.next_step()
-    }
-
-    // The step that comes next, which is on one of the words.
-    fn next_step(&self) -> Option<Step>
-        ensures value { result ≡ asks self.now }
-        ensures within { (step : Step) → asks self.now ≡ Some step
-            → word_index step < self.now.num_words }
-    {
         if self.ended {
             return None;
         }
@@ -126,15 +117,6 @@ impl Machine {
     pub fn reply(&mut self, found: u64)
         requires { IsSome (asks self.old) }
         ensures next { StandsFurther self.old found self.new }
-        ensures left { left self.new < left self.old }
-    {
-        self.take_found(found);
-    }
-
-    // Takes the word found, and goes on to the next turn.
-    fn take_found(&mut self, found: u64)
-        requires { IsSome (asks self.old) }
-        ensures fields { Replied self.old found self.new }
         ensures left { left self.new < left self.old }
     {
         let turn = self.turn + 1;
@@ -172,13 +154,6 @@ impl Machine {
         ensures value { result ≡ answers self.now }
         ensures said { AnswersRight self.now result }
     {
-        self.reply_of()
-    }
-
-    // The reply of a call that has ended.
-    fn reply_of(&self) -> Option<bool>
-        ensures { result ≡ answers self.now }
-    {
         if !self.ended {
             return None;
         }
@@ -199,7 +174,7 @@ impl Machine {
         if !self.ended {
             return End::Running;
         }
-        match self.reply_of() {
+        match self.answer() {
             Some(reply) => End::Answer(reply),
             None => End::Done,
         }

@@ -50,6 +50,7 @@ impl<'a, W: TurnWords> SpanStore<'a, W> {
         ensures count { result.count ≡ count }
         ensures turn { result.lent.turn ≡ turn }
     {
+        // A store keeps that its words are fewer than 2^58. `len` tells it, so no caller has to.
         let _count = words.len();
         SpanStore {
             words,

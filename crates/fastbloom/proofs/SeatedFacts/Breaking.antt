@@ -11,13 +11,13 @@ use Rattle.fastbloom.specs.declared.seated.rule.Role.TheVariants.{First, Pass, N
 use Rattle.fastbloom.proofs.SeatedFacts.Keeping.{view, at, alone}
 use Rattle.fastbloom.proofs.SeatedLemmas.Rules.Seats.{only-view}
 
--- what is known is on
+-- what is known is set
 seated-off : IsSeated 1 1 (at 1 (view Pass (20 ∷ []) ∷ [])) → ⊥
 unfolding content set_of
 seated-off rule =
     both_ways (content (1 ∷ []) 20) refl (rule.known_on 0 (view Pass (20 ∷ [])) refl 20 refl)
 
--- what is on was there at the start or was gained: bit 1 of 1048579 was neither
+-- what is set was there at the start or was gained: bit 1 of 1048579 was neither
 seated-unaccounted : IsSeated 1 1 (at 1048579 (view Pass (20 ∷ []) ∷ [])) → ⊥
 unfolding content set_of
 seated-unaccounted rule = elim (rule.accounted 1 refl) [
@@ -82,7 +82,7 @@ seated-other_start rule =
     let second = rule.same_start 1 (seat_view Note (0 ∷ []) [] [] 0) refl (λ bad. cc) in
     omega (arith, ap (λ words. slice_index words 0) (first ∙ sym second))
 
--- what the filter began with is on
+-- what the filter began with is set
 seated-start_off : IsSeated 1 1 (at 0 (seat_view Pass (1 ∷ []) [] [] 1 ∷ [])) → ⊥
 unfolding content
 seated-start_off rule =

@@ -10,7 +10,7 @@ use Rattle.fastbloom.specs.Sets.{set_of}
 use Rattle.fastbloom.specs.Passes.{Sight, known_of, sure_of, GrowsBeside, Finds}
 use Rattle.fastbloom.proofs.SeatedFacts.Cases.{table, pass, same-pass, nothing, one-from, only-first}
 
--- a look at hash 1 with two hashes, where the word is 1: the first position is on
+-- a look at hash 1 with two hashes, where the word is 1: the first position is set
 finds-first : Finds 64 2 1 (pass 0 [] []) (pass 0 (0 ∷ []) []) false
 unfolding set_of chain content
 finds-first = record {
@@ -83,8 +83,8 @@ finds-moved other is did =
     let names : 8 ≡ 7 = ap (λ (t : TableId). t.views_name) (sym is ∙ did.looks.same.filter) in
     omega (arith, names)
 
--- with three hashes among 128 bits, hash 1 has the positions 0, 40 and 64: a look that finds 40 off
--- doesn't load the word of 64
+-- with three hashes among 128 bits, hash 1 has the positions 0, 40 and 64: a look that finds 40
+-- clear doesn't load the word of 64
 finds-past : Finds 128 3 1 (pass 0 [] []) (pass 0 (0 ∷ 64 ∷ []) []) false → ⊥
 unfolding set_of chain content
 finds-past did = let last = did.off refl in past did.on last.0 did.looks.found last.1 last.2

@@ -77,7 +77,7 @@ inserts-known did = elim (did.gained 0 refl) [
   | inr fresh ↦ both_ways (sure_of (pass 0 (0 ∷ []) []) 0) fresh.1 refl
 ]
 
--- an insert can't gain what another hash turns on
+-- an insert can't gain what another hash sets
 inserts-other : InsertsAs (positions 64 1 1) (pass 0 (5 ∷ []) [])
     (pass 0 (0 ∷ 5 ∷ []) (5 ∷ [])) false → ⊥
 unfolding set_of positions chain content

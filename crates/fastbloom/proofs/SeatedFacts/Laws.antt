@@ -102,7 +102,7 @@ from_met-found : MetLaw → (a_new b_new later : Sight) (answer : Bool)
 from_met-found law a_new b_new later answer met did =
     law.found filter knowing unaware a_new b_new later 1 answer is_known met did
 
--- what one pass knows, an insert by a pass that met it finds on
+-- what one pass knows, an insert by a pass that met it finds set
 from_met-inserted : MetLaw → (a_new b_new later : Sight) (answer : Bool)
     → Meets knowing unaware a_new b_new → InsertsAs (seated_positions filter 1) b_new later answer
     → answer ≡ true

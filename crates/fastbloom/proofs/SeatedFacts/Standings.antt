@@ -23,12 +23,12 @@ set_of-other : set_of (5 ∷ 7 ∷ []) 6 ≡ false
 unfolding set_of
 set_of-other = refl
 
--- the positions of word 1 that are on in a word with the bits 0 and 63
+-- the positions of word 1 that are set in a word with the bits 0 and 63
 on_in-ends : on_in 1 (2 ^ 63 + 1) ≡ 127 ∷ 64 ∷ []
 unfolding picked
 on_in-ends = refl
 
--- of the bits 0 and 20 of a mask, only 20 is fresh where bit 0 was on
+-- of the bits 0 and 20 of a mask, only 20 is fresh where bit 0 was set
 fresh_in-one : fresh_in 1 1048577 1 ≡ 84 ∷ []
 unfolding picked
 fresh_in-one = refl

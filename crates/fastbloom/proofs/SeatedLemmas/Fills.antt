@@ -13,7 +13,7 @@ low-more value bit =
     let next : bit + 1 ≡ 1 + bit = omega arith in
     ap (λ j. value % 2 ^ j) next ∙ mod-pow-add value 1 bit
 
--- where the next bit is on it is turned on
+-- where the next bit is set it is put in
 low-on : (value bit : ℕ) → bit_at value bit ≡ 1
     → bit_or (value % 2 ^ bit) (2 ^ bit) ≡ value % 2 ^ (bit + 1)
 low-on value bit on =
@@ -25,7 +25,7 @@ low-on value bit on =
     ∙ ap (λ z. z * 2 ^ bit + value % 2 ^ bit) (sym on)
     ∙ sym (low-more value bit)
 
--- where the next bit is off nothing is done
+-- where the next bit is clear nothing is done
 low-off : (value bit : ℕ) → bit_at value bit ≢ 1 → value % 2 ^ bit ≡ value % 2 ^ (bit + 1)
 low-off value bit off =
     let digit = bit_at-lt value bit in
@@ -61,7 +61,7 @@ fills-by old new words was table is = record {
   start_is = ap (λ (v : Sets). v.start) is;
 }
 
--- a seat that put in the low bits of a word puts in the next, which is on
+-- a seat that put in the low bits of a word puts in the next, which is set
 pub fills-on : (a b c d : FilterSeat) (start : List ℕ) (i value bit mask : ℕ) → i < length start
     → Fills a b (set start i (value % 2 ^ bit)) → Fills b c (with_bits b.me.0.start i mask)
     → d ≡ c → mask ≡ 2 ^ bit → bit_at value bit ≡ 1
@@ -76,7 +76,7 @@ fills-on a b c d start i value bit mask within first second is is_mask on =
           ∙ word-on start b.me.0.start i value bit mask within first.start_is is_mask on;
     }
 
--- a seat that put in the low bits of a word leaves the next, which is off
+-- a seat that put in the low bits of a word leaves the next, which is clear
 pub fills-off : (a b c : FilterSeat) (start : List ℕ) (i value bit : ℕ)
     → Fills a b (set start i (value % 2 ^ bit)) → c ≡ b → bit_at value bit ≢ 1
     → Fills a c (set start i (value % 2 ^ (bit + 1)))

@@ -106,7 +106,7 @@ pub few_law : FewLaw
 few_law words passes s rule =
     let counted = count-passes s.views rule.one_each in omega (arith, counted, rule.few)
 
--- where a test holds a position is on, and else it is as it was
+-- where a test holds a position is set, and else it is as it was
 chosen : (was test : Bool) → (was || test) ≡ unwrap_or (if test then Some true else None) was
 chosen true true = refl
 chosen false true = refl

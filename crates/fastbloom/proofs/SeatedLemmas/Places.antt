@@ -22,13 +22,13 @@ positions-next n hash i q is p =
     let next : suc i ≡ i + 1 = omega arith in
     ap (λ r. positions n i hash p || eqb p r) is ∙ ap (λ j. positions n j hash p) next
 
--- no place was turned on yet
+-- no place was set yet
 pub inserts-begin : (n hash : ℕ) (old : Sight) → InsertsAs (positions n 0 hash) old old true
 unfolding positions
 inserts-begin n hash old =
     inserts-as (λ p. false) (positions n 0 hash) old old true (λ p. refl) (inserts-none old)
 
--- the next place is turned on
+-- the next place is set
 pub inserts-next : (n hash i q : ℕ) (old mid new : Sight) (a b both : Bool) → q ≡ place n hash i
     → both ≡ (a && b) → InsertsAs (positions n i hash) old mid a
     → InsertsAs (λ p. eqb p q) mid new b → InsertsAs (positions n (i + 1) hash) old new both

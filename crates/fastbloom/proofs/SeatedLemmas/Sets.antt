@@ -121,7 +121,7 @@ whole-to i test p word is =
     subst (λ q. set_of (picked i test 64) q ≡ true) same
     (picked-to i test 64 (p % 64) (omega arith) (ap test same ∙ is))
 
--- the positions that are on in a word
+-- the positions that are set in a word
 pub on-from : (i word p : ℕ) → set_of (on_in i word) p ≡ true
     → (p / 64 ≡ i) × (bit_is_on word p ≡ true)
 on-from i word p is = whole-from i (bit_is_on word) p is
@@ -129,7 +129,7 @@ on-from i word p is = whole-from i (bit_is_on word) p is
 pub on-to : (i word p : ℕ) → p / 64 ≡ i → bit_is_on word p ≡ true → set_of (on_in i word) p ≡ true
 on-to i word p here is = whole-to i (bit_is_on word) p here is
 
--- the positions that are on in a mask and off in the word found
+-- the positions that are set in a mask and clear in the word found
 module _ (i mask found : ℕ) where
   pub fresh-from : (p : ℕ) → set_of (fresh_in i mask found) p ≡ true
       → (p / 64 ≡ i) × (bit_is_on mask p ≡ true) × (bit_is_on found p ≡ false)

@@ -36,7 +36,7 @@ content-same words i p within = elim (cases_eq (p / 64) i) [
   | inr apart ↦ content-else words i (get_or words i 0) p apart
 ]
 
--- bits of a mask turned on in word i
+-- the bits of a mask are set in word i
 pub content-with_bits : (words : List ℕ) (i mask p : ℕ) → i < length words
     → content (with_bits words i mask) p
     ≡ (content words p || (eqb (p / 64) i && bit_is_on mask p))

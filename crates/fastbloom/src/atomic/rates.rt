@@ -1,11 +1,12 @@
 //! Rates of false positives of a shared filter, as counts of draws.
 ghost use Rattle.std.specs.Prelude.{◌≡◌, ◌*◌, ◌≤◌};
 ghost use Rattle.bloom_parts.specs.Brackets.{low_of, high_of, width_of, rate_low};
-ghost use Rattle.bloom_parts.specs.FalsePositives.{HoldsFalsePositives, false_pos_high, false_pos_width};
+ghost use Rattle.bloom_parts.specs.FalsePositives.{HoldsFalsePositives, false_pos_high, false_pos_width, IsCapacity};
+ghost use Rattle.bloom_parts.specs.Rates.{num_of, den_of};
 ghost use Rattle.fastbloom.specs.LoadedOnes.{BoundsLoaded};
 
 use super::AtomicBloomFilter;
-use bloom_parts::math::{Bracket, false_pos_bounds, false_pos_of_ones};
+use bloom_parts::math::{Bracket, Rate, capacity, false_pos_bounds, false_pos_of_ones};
 
 impl<S> AtomicBloomFilter<S> {
     /// Two bounds of the mean rate of false positives once `num_items` items are in the filter.
@@ -25,6 +26,15 @@ impl<S> AtomicBloomFilter<S> {
             width_of result ≤ false_pos_width (64 * self.now.words.count) (k * num_items) k }
     {
         false_pos_bounds(self.num_hashes, self.num_bits(), num_items)
+    }
+
+    /// A number of items that the filter takes at a mean rate of false positives, of which one more
+    /// is too many, by the upper bound of `false_pos_bounds`.
+    pub fn capacity_for(&self, rate: Rate) -> usize
+        ensures { IsCapacity (64 * self.now.words.count) self.now.hashes (num_of rate) (den_of rate)
+            result }
+    {
+        capacity(self.num_hashes, self.num_bits(), rate)
     }
 
     /// Two bounds of the rate of false positives of the filter, by its words as they were loaded,

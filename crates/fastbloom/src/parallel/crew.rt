@@ -1,15 +1,14 @@
 //! All workers: what they need is made before the first is started, and all are joined.
-ghost use Rattle.std.specs.Prelude.{◌≡◌, ◌≤◌, [], All, IfOk, IsOkUnless, IsTrue, map, vec_len, vec_capacity};
+ghost use Rattle.std.specs.Prelude.{◌≡◌, ◌≤◌, [], All, IfOk, OnOk, map, vec_len, vec_capacity};
 ghost use Rattle.std.specs.List.{concat};
 ghost use Rattle.bloom_parts.specs.Keys.{HasKey};
 ghost use Rattle.fastbloom.specs.Fill.{IsFilledWith};
 
 use super::gate::Gate;
-use super::job::{Job, Worker, start};
+use super::job::{Job, NoThread, Worker, start};
 use super::shape::Shape;
-use bloom_parts::error::FilterError;
 use bloom_plain::BloomFilter;
-use std::alloc::Global;
+use std::alloc::{AllocError, Global};
 use std::sync::Arc;
 use std::thread::Threads;
 
@@ -32,11 +31,10 @@ fn jobs_of<G: Gate + Drop>(
     gate: &Arc<G, Global>,
     shape: Shape,
     parts: Vec<Vec<u64>>,
-) -> Result<Vec<Job<G>>, FilterError>
+) -> Result<Vec<Job<G>>, AllocError>
     ensures hashes { IfOk result (λ jobs.
         map (λ job. job.hashes.items) jobs.items ≡ map (λ part. part.items) parts.items) }
     ensures shaped { IfOk result (λ jobs. All (λ job. job.shape ≡ shape) jobs.items) }
-    ensures refused { IsOkUnless result FilterError.Memory }
 {
     let mut jobs = Vec::new(alloc);
     'parts: for hashes in parts {
@@ -58,12 +56,11 @@ pub(super) fn prepare<G: Gate + Drop>(
     gate: &Arc<G, Global>,
     shape: Shape,
     parts: Vec<Vec<u64>>,
-) -> Result<Crew<G>, FilterError>
+) -> Result<Crew<G>, AllocError>
     ensures hashes { IfOk result (λ crew.
         map (λ job. job.hashes.items) crew.jobs.items ≡ map (λ part. part.items) parts.items) }
     ensures shape { IfOk result (λ crew. crew.shape ≡ shape) }
     ensures key { IfOk result (λ crew. HasKey crew.whole.hasher 0 0) }
-    ensures refused { IsOkUnless result FilterError.Memory }
 {
     let whole = shape.empty_filter(alloc)?;
     let jobs = jobs_of(alloc, gate, shape, parts)?;
@@ -76,28 +73,27 @@ pub(super) fn prepare<G: Gate + Drop>(
     })
 }
 
-// Starts a thread for each job, until one is refused. Returns whether none was.
+// Starts a thread for each job, until one is refused.
 fn start_all<R: Threads, G: Gate + Send + Sync + Drop + 'static>(
     rt: &R,
     jobs: Vec<Job<G>>,
     shape: Shape,
     workers: &mut Vec<Worker>,
-) -> bool
+) -> Result<(), NoThread>
     requires shaped { All (λ job. job.shape ≡ shape) jobs.items }
     requires idle { vec_len workers.old ≡ 0 }
     requires room { vec_len jobs ≤ vec_capacity workers.old }
     ensures shaped { All (λ worker. worker.shape ≡ shape) workers.new.items }
-    ensures hashes { IsTrue result
-        → map (λ worker. worker.hashes.value.items) workers.new.items
-        ≡ map (λ job. job.hashes.items) jobs.items }
+    ensures hashes { OnOk result (map (λ worker. worker.hashes.value.items) workers.new.items
+        ≡ map (λ job. job.hashes.items) jobs.items) }
 {
     'jobs: for job in jobs {
-        let Some(worker) = start(rt, job) else {
-            return false;
-        };
-        workers.push_reserved(worker);
+        match start(rt, job) {
+            Ok(worker) => workers.push_reserved(worker),
+            Err(refused) => return Err(refused),
+        }
     }
-    true
+    Ok(())
 }
 
 // Waits for each worker, and unites its filter with the whole.
@@ -120,11 +116,10 @@ fn gather<R: Threads>(rt: &R, workers: Vec<Worker>, shape: Shape, whole: &mut Bl
 pub(super) fn set_to_work<R: Threads, G: Gate + Send + Sync + Drop + 'static>(
     rt: &R,
     crew: Crew<G>,
-) -> Result<BloomFilter, FilterError>
+) -> Result<BloomFilter, NoThread>
     ensures filled { IfOk result (λ filter. IsFilledWith crew.shape
         (concat (map (λ job. job.hashes.items) crew.jobs.items)) filter) }
     ensures hasher { IfOk result (λ filter. filter.hasher ≡ crew.whole.hasher) }
-    ensures refused { IsOkUnless result FilterError.Worker }
 {
     let Crew {
         jobs,
@@ -132,10 +127,10 @@ pub(super) fn set_to_work<R: Threads, G: Gate + Send + Sync + Drop + 'static>(
         mut workers,
         shape,
     } = crew;
-    let all = start_all(rt, jobs, shape, &mut workers);
+    let started = start_all(rt, jobs, shape, &mut workers);
     gather(rt, workers, shape, &mut whole);
-    if !all {
-        return Err(FilterError::Worker);
+    match started {
+        Ok(()) => Ok(whole),
+        Err(refused) => Err(refused),
     }
-    Ok(whole)
 }

@@ -4,7 +4,7 @@ ghost use Rattle.bloom_plain.specs.Filter.{IsShape};
 use bloom_parts::error::FilterError;
 use bloom_plain::BloomFilter;
 use bloom_plain::builder::num_words_for;
-use std::alloc::Global;
+use std::alloc::{AllocError, Global};
 
 /// The number of words and the number of hashes of a filter to be.
 #[derive(Clone, Copy, Debug)]
@@ -15,7 +15,7 @@ pub struct Shape {
 }
 
 impl Shape {
-    ghost use Rattle.std.specs.Prelude.{◌≡◌, [], IfOk, IsOkUnless, max};
+    ghost use Rattle.std.specs.Prelude.{◌≡◌, [], IfOk, max};
     ghost use Rattle.std.specs.Result.{result_err};
     ghost use Rattle.bloom_parts.specs.Keys.{HasKey};
     ghost use Rattle.bloom_plain.specs.Builders.{words_for, bits_refusal};
@@ -41,12 +41,13 @@ impl Shape {
     }
 
     // The filter of this shape with every position clear, under the zero key.
-    pub(super) fn empty_filter(self, alloc: Global) -> Result<BloomFilter, FilterError>
+    pub(super) fn empty_filter(self, alloc: Global) -> Result<BloomFilter, AllocError>
         ensures empty { IfOk result (λ filter. IsFilledWith self [] filter) }
         ensures key { IfOk result (λ filter. HasKey filter.hasher 0 0) }
-        ensures refused { IsOkUnless result FilterError.Memory }
     {
-        let builder = BloomFilter::with_num_bits(alloc, 64 * self.num_words)?;
-        Ok(builder.hashes(self.num_hashes))
+        match BloomFilter::with_num_bits(alloc, 64 * self.num_words) {
+            Ok(builder) => Ok(builder.hashes(self.num_hashes)),
+            Err(_no_memory) => Err(AllocError),
+        }
     }
 }

@@ -1,16 +1,16 @@
 //! The head of a blocked filter's file, and its seal.
 ghost use Rattle.std.specs.Prelude.{◌≡◌, ◌<◌, length};
 ghost use Rattle.bloom_parts.specs.Keys.{key_low, key_high};
-ghost use Rattle.bloom_plain.specs.declared.file.layout.Layout.TheVariants.{Lines};
-ghost use Rattle.bloom_plain.specs.File.{bytes_of};
-ghost use Rattle.bloom_plain.specs.FileLayouts.{head_refusal_in, numbers_in, right_seal};
-ghost use Rattle.bloom_plain.specs.FileRefusals.{number_at};
+ghost use Rattle.bloom_files.specs.declared.layout.Layout.TheVariants.{Lines};
+ghost use Rattle.bloom_files.specs.File.{bytes_of};
+ghost use Rattle.bloom_files.specs.FileLayouts.{head_refusal_in, numbers_in, right_seal};
+ghost use Rattle.bloom_files.specs.FileRefusals.{number_at};
 ghost use Rattle.fastbloom_c.specs.Files.{head_for, line_words_refusal, file_code_or_zero};
 
 use crate::files::{head_for, key_bytes};
 use bloom_blocked::words::LINE;
+use bloom_files::{FileError, Layout, head_bytes_in, read_head_in, right_seal};
 use bloom_parts::bit_vector::MAX_WORDS;
-use bloom_plain::file::{FileError, Layout, head_bytes_in, read_head_in, right_seal};
 
 /// Writes the 64 bytes of the head of a blocked filter's file, and returns 0.
 ///

@@ -11,17 +11,17 @@ ghost use Rattle.fastbloom_c.specs.Passed.{MakeLines, vector_of};
 
 use crate::lent::LentWords;
 use crate::texts::fastbloom_hash;
-use crate::words::{PassedWords, RawWords};
+use crate::words::PassedWords;
 use bloom_blocked::line::{looks_in_line, set_in_line};
 use bloom_blocked::words::LINE;
 use bloom_parts::bit_vector::MAX_WORDS;
 
 // Whether there are eight words, and at most 2^58 - 1.
 #[inline(always)]
-pub(crate) fn make_lines(words: &RawWords) -> bool
-    ensures { IsTrue result ↔ MakeLines words.now.len }
+pub(crate) fn make_lines(num_words: usize) -> bool
+    ensures { IsTrue result ↔ MakeLines num_words }
 {
-    words.len() >= LINE && words.len() <= MAX_WORDS
+    num_words >= LINE && num_words <= MAX_WORDS
 }
 
 /// Sets all positions of a hash, and returns whether its own steps found all of them set already.
@@ -38,9 +38,10 @@ pub extern "C" fn fastbloom_blocked_shared_insert_hash(
     ensures none { (MakeLines words.len → ⊥) → result ≡ false }
 {
     let words = words.shared();
-    if !make_lines(&words) {
+    let accepted = make_lines(words.len());
+    let Some(words) = words.unless_refused(accepted) else {
         return false;
-    }
+    };
     set_in_line(&LentWords::new(&words), num_hashes.max(1), hash)
 }
 
@@ -56,11 +57,11 @@ pub extern "C" fn fastbloom_blocked_shared_contains_hash(
     ensures none { (MakeLines words.len → ⊥) → result ≡ false }
 {
     let words = words.shared();
-    if !make_lines(&words) {
-        false
-    } else {
-        looks_in_line(&LentWords::new(&words), num_hashes.max(1), hash)
-    }
+    let accepted = make_lines(words.len());
+    let Some(words) = words.unless_refused(accepted) else {
+        return false;
+    };
+    looks_in_line(&LentWords::new(&words), num_hashes.max(1), hash)
 }
 
 /// Inserts the hash of bytes, and returns whether its own steps found all positions set already.

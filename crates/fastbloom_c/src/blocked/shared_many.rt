@@ -7,7 +7,8 @@ use super::many::have_room;
 use super::shared::make_lines;
 use crate::lent::LentWords;
 use crate::words::{PassedWords, RawWords};
-use bloom_blocked::line::{insert_hashes, looks_in_line, set_in_line};
+use bloom_blocked::line::{insert_hashes, looks_in_line, set_in_turn};
+use bloom_parts::bit_vector::Turn;
 use bloom_parts::slices::clear;
 use bloom_parts::slices::many::turn_on_where;
 
@@ -26,13 +27,21 @@ pub extern "C" fn fastbloom_blocked_shared_insert_hashes(
         → SetsInLines (vector_of words.at words.len) (max 1 num_hashes) hashes.now }
 {
     let words = words.shared();
-    if !make_lines(&words) {
+    let accepted = make_lines(words.len());
+    let Some(words) = words.unless_refused(accepted) else {
         return false;
-    }
+    };
     let lent = LentWords::new(&words);
     let num_hashes = num_hashes.max(1);
     insert_hashes(&lent, num_hashes, hashes);
     true
+}
+
+// Whether there is a line, and bits enough for these hashes.
+fn have_bits(num_words: usize, hashes: usize, bits: usize) -> bool
+    ensures { IsTrue result ↔ (MakeLines num_words × (hashes ≤ 64 * bits)) }
+{
+    make_lines(num_words) && have_room(num_words, hashes, bits)
 }
 
 // Looks up each of these hashes, and sets bit i where hash i was found, and no other.
@@ -76,15 +85,16 @@ pub extern "C" fn fastbloom_blocked_shared_contains_hashes(
     ensures shape { length found.new ≡ length found.old }
 {
     let words = words.shared();
-    if !make_lines(&words) || !have_room(words.len(), hashes.len(), found.len()) {
+    let accepted = have_bits(words.len(), hashes.len(), found.len());
+    let Some(words) = words.unless_refused(accepted) else {
         return false;
-    }
+    };
     find_each(&words, num_hashes.max(1), hashes, found);
     true
 }
 
-// Inserts each of these hashes, and sets bit i where the insert of hash i found a bit clear, and no
-// other.
+// Inserts each of these hashes, in order, and sets bit i where the insert of hash i found a bit
+// clear, and no other.
 fn insert_each_telling(words: &RawWords, num_hashes: u32, hashes: &[u64], fresh: &mut [u64])
     requires filter { MakeLines words.now.len }
     requires room { length hashes.now ≤ 64 * length fresh.old }
@@ -93,9 +103,10 @@ fn insert_each_telling(words: &RawWords, num_hashes: u32, hashes: &[u64], fresh:
     ensures shape { length fresh.new ≡ length fresh.old }
 {
     clear(fresh);
+    let mut turn = Turn::first();
     let mut i: usize = 0;
     'hashes: for hash in hashes {
-        let was_set = set_in_line(&LentWords::new(words), num_hashes, *hash);
+        let was_set = set_in_turn(&LentWords::new(words), &mut turn, num_hashes, *hash);
         turn_on_where(!was_set, fresh, i);
         i += 1;
     }
@@ -120,9 +131,10 @@ pub extern "C" fn fastbloom_blocked_shared_insert_hashes_tell_new(
     ensures shape { length fresh.new ≡ length fresh.old }
 {
     let words = words.shared();
-    if !make_lines(&words) || !have_room(words.len(), hashes.len(), fresh.len()) {
+    let accepted = have_bits(words.len(), hashes.len(), fresh.len());
+    let Some(words) = words.unless_refused(accepted) else {
         return false;
-    }
+    };
     insert_each_telling(&words, num_hashes.max(1), hashes, fresh);
     true
 }

@@ -1,39 +1,38 @@
 //! Calls on a plain and a shared blocked filter: what both return, and all words of both after each
 //! call. The values are by a model of SipHash-1-3, of the lines and of the positions, in Python.
+use super::holding::{are_alike, holds};
 use super::{Make, Pair, pair_of};
 use crate::telling::{tell_named, tell_row};
-use bloom_blocked::{AtomicBlockedBloomFilter, BlockedBloomFilter};
-use std::alloc::Global;
 
-// A call on both filters, and what it returns.
-enum Op {
-    // `insert_hash`.
+/// A call on both filters, and what it returns.
+pub(super) enum Op {
+    /// `insert_hash`.
     Insert(u64, bool),
-    // `contains_hash`.
+    /// `contains_hash`.
     Contains(u64, bool),
-    // `insert` of a number.
+    /// `insert` of a number.
     InsertItem(u64, bool),
-    // `contains` of a number.
+    /// `contains` of a number.
     ContainsItem(u64, bool),
-    // `source_hash` of a number.
-    Hash(u64, u64),
-    // `insert_hashes`.
+    /// `insert_hashes`.
     InsertHashes(&'static [u64]),
-    // `insert_all` of numbers.
+    /// `insert_all` of numbers.
     InsertAll(&'static [u64]),
-    // `extend` by the numbers from the first up to the second.
+    /// `extend` by the numbers from the first up to the second.
     Extend(u64, u64),
-    // `union` with the other filters. False: their shape differs, and nothing is done.
+    /// `union` with the other filters. False: their shape differs, and nothing is done.
     Unite(bool),
-    // `intersect` with them, or nothing.
+    /// `intersect` with them, or nothing.
     Intersect(bool),
     Clear,
-    // `take_words` gives the words of the plain filter, which is cleared then.
+    /// `take_words` gives the words of the plain filter, which is cleared then.
     Take,
-    // `count_ones`.
+    /// `count_ones`.
     Ones(usize),
-    // The words are these.
+    /// The words are these.
     Words(&'static [u64]),
+    /// A copy of the plain filter, and one that is made of its data, equal it.
+    Copy,
 }
 
 // How both filters and the others are made, and calls that are made one after the other.
@@ -85,7 +84,6 @@ const CALLS: &'static [Calls] = &[
         make: made!(1, 2, &[]),
         other: made!(2, 2, &[2, 3]),
         ops: &[
-            Op::Hash(42, 0xac2d_061b_15c2_5001),
             Op::ContainsItem(42, false),
             Op::InsertItem(42, false),
             Op::InsertItem(42, true),
@@ -110,6 +108,18 @@ const CALLS: &'static [Calls] = &[
             Op::Take,
             Op::Ones(0),
             Op::ContainsItem(42, false),
+        ],
+    },
+    Calls {
+        name: "one line and 17 hashes",
+        make: made!(1, 17, &[]),
+        other: made!(2, 17, &[]),
+        ops: &[
+            Op::Copy,
+            Op::Extend(0, 3),
+            Op::ContainsItem(2, true),
+            Op::Copy,
+            Op::Unite(false),
         ],
     },
     Calls {
@@ -144,6 +154,7 @@ const CALLS: &'static [Calls] = &[
             Op::Ones(602),
             Op::InsertAll(&[150, 250, 350]),
             Op::Extend(250, 251),
+            Op::Copy,
             Op::InsertHashes(&[(1 << 57) + 1, (2 << 57) + 2, (3 << 57) + 3]),
             Op::Ones(617),
             Op::Unite(true),
@@ -159,94 +170,6 @@ const CALLS: &'static [Calls] = &[
         ],
     },
 ];
-
-// Whether both filters have the same shape, hasher and words.
-fn are_alike(pair: &Pair) -> bool {
-    let Pair { plain, shared } = pair;
-    (plain.num_bits() == shared.num_bits())
-        & (plain.num_hashes() == shared.num_hashes())
-        & (plain.hasher().key() == shared.hasher().key())
-        & (plain.source_hash(&7u64) == shared.source_hash(&7u64))
-        & plain.iter().eq(shared.iter())
-}
-
-// Unites both filters with others, or intersects them, if they have one shape: whether they have.
-fn meet(pair: &mut Pair, other: &Pair, unites: bool) -> bool {
-    let Pair { plain, shared } = pair;
-    let is_shared_alike = shared.same_shape(&other.shared);
-    if !plain.same_shape(&other.plain) || !is_shared_alike {
-        return is_shared_alike;
-    }
-    if unites {
-        shared.union(&other.shared);
-        plain.union(&other.plain);
-    } else {
-        shared.intersect(&other.shared);
-        plain.intersect(&other.plain);
-    }
-    true
-}
-
-// Whether the words that are taken are those of a plain filter, which is cleared.
-fn take(alloc: Global, shared: &AtomicBlockedBloomFilter, plain: &mut BlockedBloomFilter) -> bool {
-    match shared.take_words(alloc) {
-        Ok(words) => {
-            let is_right = words.as_slice() == plain.as_slice();
-            plain.clear();
-            is_right
-        }
-        Err(_refusal) => false,
-    }
-}
-
-// Whether a call on both filters returns what it is to.
-fn holds(alloc: Global, pair: &mut Pair, other: &Pair, op: &Op) -> bool {
-    match op {
-        Op::Insert(hash, said) => {
-            (pair.plain.insert_hash(*hash) == *said) & (pair.shared.insert_hash(*hash) == *said)
-        }
-        Op::Contains(hash, said) => {
-            let is_found = pair.plain.contains_hash(*hash) == *said;
-            is_found & (pair.shared.contains_hash(*hash) == *said)
-        }
-        Op::InsertItem(item, said) => {
-            (pair.plain.insert(item) == *said) & (pair.shared.insert(item) == *said)
-        }
-        Op::ContainsItem(item, said) => {
-            (pair.plain.contains(item) == *said) & (pair.shared.contains(item) == *said)
-        }
-        Op::Hash(item, hash) => {
-            (pair.plain.source_hash(item) == *hash) & (pair.shared.source_hash(item) == *hash)
-        }
-        Op::InsertHashes(hashes) => {
-            pair.plain.insert_hashes(hashes);
-            pair.shared.insert_hashes(hashes);
-            true
-        }
-        Op::InsertAll(items) => {
-            pair.plain.insert_all(*items);
-            pair.shared.insert_all(*items);
-            true
-        }
-        Op::Extend(first, last) => {
-            pair.plain.extend(*first..*last);
-            pair.shared.extend(*first..*last);
-            true
-        }
-        Op::Unite(said) => meet(pair, other, true) == *said,
-        Op::Intersect(said) => meet(pair, other, false) == *said,
-        Op::Clear => {
-            pair.plain.clear();
-            pair.shared.clear();
-            true
-        }
-        Op::Take => take(alloc, &pair.shared, &mut pair.plain),
-        Op::Ones(ones) => {
-            (pair.plain.count_ones() == *ones) & (pair.shared.count_ones() == *ones)
-        }
-        Op::Words(words) => pair.plain.iter().eq(words.iter().copied()),
-    }
-}
 
 // Whether each call returns what it is to, and leaves both filters alike, and the others too. The
 // first that doesn't is told.

@@ -1,6 +1,6 @@
 //! Drawn sessions of blocked filters, and what both kinds reply, folded into one number.
 use super::{Make, Pair, pair_of};
-use bloom_blocked::AtomicBlockedBloomFilter;
+use fastbloom::AtomicBlockedBloomFilter;
 use std::alloc::Global;
 
 // The number of an index that a session draws, by SplitMix64 (G. L. Steele, D. Lea and C. H. Flood,

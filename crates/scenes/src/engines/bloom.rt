@@ -1,25 +1,20 @@
-//! What the program `bloom` is to do: `arguments`, `serve` over odd readers and writers, and the
-//! text and the status of each fault.
+//! What the program `bloom` is to do: `arguments`, and `serve` over odd readers and writers.
 mod rows;
 
 use super::faulty::{NARROW, ROOMY, Reading, SLOW, Seen, Sink, Source, WHOLE, Writing};
 use crate::telling::{has_text, tell_row};
 use bloom_engine::{Fault, arguments, serve};
-use bloom_plain::{BloomFilter, FilterError};
-use rows::{ARGUMENTS, Asked, FAULTS, Failing, Given, RUNS, Row, TEXTS};
+use fastbloom::{BloomFilter, FilterError};
+use rows::{ARGUMENTS, Asked, FAULTS, Failing, Given, RUNS, Row};
 use std::alloc::{AllocError, Global};
 
-/// A filter of this many words of zeros, with this many hashes.
-pub(crate) fn filter_of(
-    alloc: Global,
-    words: usize,
-    hashes: u32,
-) -> Result<BloomFilter, FilterError> {
+// A filter of this many words of zeros, with this many hashes.
+fn filter_of(alloc: Global, words: usize, hashes: u32) -> Result<BloomFilter, FilterError> {
     Ok(BloomFilter::from_vec(vec![in alloc; 0u64; words]?)?.hashes(hashes))
 }
 
-/// The words after the program's name.
-pub(super) fn words_of(alloc: Global, given: &[&'static str]) -> Result<Vec<String>, AllocError> {
+// The words after the program's name.
+fn words_of(alloc: Global, given: &[&'static str]) -> Result<Vec<String>, AllocError> {
     let mut words = Vec::new(alloc);
     for word in given {
         words.push(word.to_string(alloc)?)?;
@@ -123,13 +118,5 @@ fn fails(alloc: Global, failing: &Failing) -> bool {
 fn a_read_a_write_or_a_flush_may_fail(rt: HostRuntime) {
     for (i, failing) in FAULTS.iter().enumerate() {
         assert!(rt; tell_row(&rt, i, fails(rt.alloc(), failing)));
-    }
-}
-
-#[test]
-fn faults_have_a_text_and_a_status(rt: HostRuntime) {
-    for (i, (fault, text, status)) in TEXTS.iter().enumerate() {
-        let is_told = has_text(rt.alloc(), fault, text) & (fault.status() == *status);
-        assert!(rt; tell_row(&rt, i, is_told));
     }
 }

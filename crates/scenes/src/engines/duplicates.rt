@@ -2,12 +2,12 @@
 mod odd;
 mod rows;
 
-use super::faulty::{FAILING, Seen, Sink};
-use crate::telling::{has_text, tell_row};
-use bloom_plain::{BloomFilter, FilterError, Rate};
+use super::faulty::{KINDS, Reading, SLOW, Seen, Sink};
+use crate::telling::tell_row;
 use duplicates_engine::{Fault, Options, Total, keep_new};
+use fastbloom::{BloomFilter, FilterError, Rate};
 use odd::{Limited, Quiet, Sources};
-use rows::{PLAIN, READS, RUNS, Row, Run, TEXTS};
+use rows::{PLAIN, READS, RUNS, Row, Run};
 use std::alloc::Global;
 use std::io::ErrorKind;
 
@@ -69,27 +69,23 @@ fn odd_runs_write_and_end_as_they_are_to(rt: HostRuntime) {
     }
 }
 
-// The run over inputs whose reads fail at their end.
-fn failing(inputs: &'static [&'static str]) -> Run {
+// The run over inputs whose reads fail at their end, for this reason.
+fn failing(inputs: &'static [&'static str], kind: ErrorKind) -> Run {
     Run {
         inputs,
-        reading: FAILING,
+        reading: Reading {
+            fails: Some(kind),
+            ..SLOW
+        },
         ..PLAIN
     }
 }
 
 #[test]
 fn a_read_may_fail_behind_any_byte(rt: HostRuntime) {
-    let wanted = Err(Fault::Input(ErrorKind::BrokenPipe));
     for (i, (inputs, output)) in READS.iter().enumerate() {
-        let row = (failing(*inputs), *output, wanted);
+        let kind = KINDS[i % 6];
+        let row = (failing(*inputs, kind), *output, Err(Fault::Input(kind)));
         assert!(rt; tell_row(&rt, i, is_right(rt.alloc(), &row)));
-    }
-}
-
-#[test]
-fn faults_have_texts(rt: HostRuntime) {
-    for (i, (fault, text)) in TEXTS.iter().enumerate() {
-        assert!(rt; tell_row(&rt, i, has_text(rt.alloc(), fault, text)));
     }
 }

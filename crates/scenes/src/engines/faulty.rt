@@ -11,30 +11,40 @@ pub(crate) struct Reading {
     pub(crate) piece: usize,
     /// Whether an interrupted read comes before each.
     pub(crate) interrupts: bool,
-    /// Whether it fails where it would tell its end.
-    pub(crate) fails: bool,
+    /// Why it fails where it would tell its end, if it does.
+    pub(crate) fails: Option<ErrorKind>,
 }
 
 /// A reader that gives all at once.
 pub(crate) const WHOLE: Reading = Reading {
     piece: 65536,
     interrupts: false,
-    fails: false,
+    fails: None,
 };
 
 /// A reader that gives a byte a read, with an interrupted read before each.
 pub(crate) const SLOW: Reading = Reading {
     piece: 1,
     interrupts: true,
-    fails: false,
+    fails: None,
 };
 
 /// The same, but it fails where it would tell its end.
 pub(crate) const FAILING: Reading = Reading {
     piece: 1,
     interrupts: true,
-    fails: true,
+    fails: Some(ErrorKind::BrokenPipe),
 };
+
+/// Kinds of failed reads, each of which has to be told as itself.
+pub(crate) const KINDS: [ErrorKind; 6] = [
+    ErrorKind::BrokenPipe,
+    ErrorKind::NotFound,
+    ErrorKind::PermissionDenied,
+    ErrorKind::TimedOut,
+    ErrorKind::UnexpectedEof,
+    ErrorKind::Other,
+];
 
 /// What is seen of the readers and the writer of a run.
 #[derive(Drop)]
@@ -88,8 +98,8 @@ impl<'a> Source<'a> {
 
     fn end(&mut self) -> io::Result<()> {
         self.seen.ends.set(self.seen.ends.get().saturating_add(1));
-        if self.reading.fails {
-            return Err(ErrorKind::BrokenPipe.into());
+        if let Some(kind) = self.reading.fails {
+            return Err(kind.into());
         }
         self.rest = LATER;
         Ok(())

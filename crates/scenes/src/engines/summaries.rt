@@ -9,9 +9,8 @@ use super::faulty::{Seen, Sink, WHOLE};
 use crate::fills::{Watching, gate_for};
 use crate::telling::{has_text, tell_row};
 use fastbloom::{FilterError, Shape};
-pub(super) use odd::Odd;
-pub(super) use rows::A;
-use rows::{ACTS, Act, Row, UNREAD};
+use odd::Odd;
+use rows::{A, ACTS, Act, Row, UNREAD};
 use std::alloc::Global;
 use std::sync::Arc;
 use std::sync::atomic::Ordering;
@@ -20,8 +19,8 @@ use summaries_engine::{
     AnyFilter, Stop, Told, ask, build, build_through, load, no_json, put, put_file,
 };
 
-/// The filter of the keys of two inputs.
-pub(super) fn built<R: Threads + AllocGlobal>(rt: &R, odd: &Odd) -> Result<AnyFilter, Stop> {
+// The filter of the keys of two inputs.
+fn built<R: Threads + AllocGlobal>(rt: &R, odd: &Odd) -> Result<AnyFilter, Stop> {
     let Ok(shape) = Shape::new(64, 2) else {
         return Err(Stop::Worker);
     };
@@ -31,8 +30,8 @@ pub(super) fn built<R: Threads + AllocGlobal>(rt: &R, odd: &Odd) -> Result<AnyFi
     }
 }
 
-/// The filter of an input.
-pub(super) fn loaded(alloc: Global, odd: &Odd) -> Result<AnyFilter, Stop>
+// The filter of an input.
+fn loaded(alloc: Global, odd: &Odd) -> Result<AnyFilter, Stop>
     ensures { IfOk result IsKeyed }
 {
     let mut input = odd.source();
@@ -70,13 +69,20 @@ fn write_text(alloc: Global, filter: &AnyFilter, output: &mut Sink) -> Result<()
     }
 }
 
-/// Writes those keys of an input that a filter finds.
-pub(super) fn write_found(
-    alloc: Global,
-    odd: &Odd,
-    filter: &AnyFilter,
-    output: &mut Sink,
-) -> Result<(), Stop>
+// Writes the text of a filter that is loaded.
+fn write_loaded(alloc: Global, odd: &Odd, output: &mut Sink) -> Result<(), Stop> {
+    match loaded(alloc, odd) {
+        Ok(filter) => {
+            let ended = write_text(alloc, &filter, output);
+            drop(filter);
+            ended
+        }
+        Err(stop) => Err(stop),
+    }
+}
+
+// Writes those keys of an input that a filter finds.
+fn write_found(alloc: Global, odd: &Odd, filter: &AnyFilter, output: &mut Sink) -> Result<(), Stop>
     requires { IsKeyed filter.now }
 {
     ask::<10, _, _>(alloc, filter, Told::Found, odd, &["odd"], output)
@@ -96,6 +102,7 @@ fn carry_out<R: Threads + AllocGlobal>(
         Act::Build => write_made(built(rt, odd), output),
         Act::Ask => write_found(rt.alloc(), odd, filter, output),
         Act::Load => write_made(loaded(rt.alloc(), odd), output),
+        Act::LoadText => write_loaded(rt.alloc(), odd, output),
         Act::Put => write_file(filter, output),
         Act::PutText => write_text(rt.alloc(), filter, output),
     }

@@ -1,9 +1,8 @@
-//! Files of blocked filters: the worked file, and what is refused.
+//! Files of blocked filters: the worked file, and others.
 use crate::files::KEY;
 use crate::telling::tell_row;
 use bloom_blocked::BlockedBloomFilter;
-use bloom_plain::file::FileError;
-use fastbloom::{BloomFilter, DefaultHasher, FilterError, Text};
+use fastbloom::{BloomFilter, DefaultHasher, FileError, FilterError, FilterFile, Text};
 use std::alloc::Global;
 
 // The worked file of lines of docs/FILE.md, as a program in Python makes it.
@@ -15,140 +14,62 @@ const WORKED: [u8; 128] = [
     0, 0, 0, 0, 0, 0, 0, 0, 0, 0, 0, 0, 0, 0,
 ];
 
-// The filter of one line and 3 hashes into which two texts were inserted.
-fn crabs(alloc: Global) -> Result<BlockedBloomFilter, FilterError> {
+// The filter of this many lines and 3 hashes into which two texts were inserted.
+fn crabs(alloc: Global, lines: usize) -> Result<BlockedBloomFilter, FilterError> {
     let hasher = DefaultHasher::keyed(KEY.0, KEY.1);
-    let builder = BlockedBloomFilter::with_num_bits(alloc, 512)?.hasher(hasher);
-    let mut filter = builder.hashes(3);
+    let builder = BlockedBloomFilter::with_num_bits(alloc, lines.saturating_mul(512))?;
+    let mut filter = builder.hasher(hasher).hashes(3);
     filter.insert(&Text(b"crab".as_slice()));
     filter.insert(&Text(b"lobster".as_slice()));
     Ok(filter)
 }
 
-// Whether a filter is written to a writer as the worked file.
-fn writes(alloc: Global, filter: &BlockedBloomFilter) -> bool {
-    let mut output = Vec::new(alloc);
-    filter.write_file(&mut output).is_ok() & (output.as_slice() == WORKED.as_slice())
+// Whether what was read is a filter, with its key.
+fn is_back(read: Result<BlockedBloomFilter, FileError>, filter: &BlockedBloomFilter) -> bool {
+    match read {
+        Ok(back) => (back == *filter) & (back.hasher().key() == KEY),
+        Err(_refusal) => false,
+    }
 }
 
-// Whether it is in memory, too.
-fn writes_both(alloc: Global, filter: &BlockedBloomFilter) -> bool {
+// Whether a filter comes back from its file in memory, which is the worked one where that is said.
+fn comes_back(alloc: Global, filter: &BlockedBloomFilter, is_worked: bool) -> bool {
     match filter.to_bytes(alloc) {
-        Ok(in_memory) => writes(alloc, filter) & (in_memory.as_slice() == WORKED.as_slice()),
+        Ok(file) => {
+            let is_right = !is_worked | (file.as_slice() == WORKED.as_slice());
+            is_right
+                & is_back(
+                    BlockedBloomFilter::from_bytes(alloc, file.as_slice()),
+                    filter,
+                )
+        }
         Err(_refusal) => false,
     }
 }
 
-// Whether both ways to write give the worked file.
-fn is_written(alloc: Global) -> bool {
-    match crabs(alloc) {
-        Ok(filter) => writes_both(alloc, &filter),
+// Whether it comes back from the file that it is written to.
+fn comes_back_by_stream(alloc: Global, filter: &BlockedBloomFilter) -> bool {
+    let mut output = Vec::new(alloc);
+    let is_written = filter.write_file(&mut output).is_ok();
+    let mut input = output.as_slice();
+    let read = BlockedBloomFilter::read_file(alloc, &mut input);
+    is_written & is_back(read, filter) & input.is_empty()
+}
+
+// Whether a filter of this many lines comes back both ways.
+fn is_kept(alloc: Global, lines: usize) -> bool {
+    match crabs(alloc, lines) {
+        Ok(filter) => {
+            comes_back(alloc, &filter, lines == 1) & comes_back_by_stream(alloc, &filter)
+        }
         Err(_refusal) => false,
     }
 }
 
-// Whether a filter was read that is the worked one, with its key.
-fn are_crabs(alloc: Global, read: Result<BlockedBloomFilter, FileError>) -> bool {
-    let Ok(filter) = read else {
-        return false;
-    };
-    match crabs(alloc) {
-        Ok(worked) => (filter == worked) & (filter.hasher().key() == KEY),
-        Err(_refusal) => false,
-    }
-}
-
-// Whether both ways to read give the worked filter, and the reader is at its end.
-fn is_read(alloc: Global, bytes: &[u8]) -> bool {
-    let mut input = bytes;
-    let by_reader = are_crabs(alloc, BlockedBloomFilter::read_file(alloc, &mut input));
-    let in_memory = are_crabs(alloc, BlockedBloomFilter::from_bytes(alloc, bytes));
-    by_reader & in_memory & input.is_empty()
-}
-
+// A block has 64 lines.
 #[test]
-fn the_worked_file_of_lines_is_written_and_read(rt: HostRuntime) {
-    let mut unsealed = WORKED;
-    unsealed[40..48].copy_from_slice(&[0; 8]);
-    assert!(rt; is_written(rt.alloc()));
-    assert!(rt; is_read(rt.alloc(), &WORKED));
-    assert!(rt; is_read(rt.alloc(), &unsealed));
-}
-
-// An offset in the worked file, the number that is put there, how many bytes are read of the file,
-// why it is refused where lines are read, and why where none are. Offset 128 changes nothing.
-type Refused = (usize, u64, usize, Option<FileError>, Option<FileError>);
-
-const REFUSED: &'static [Refused] = &[
-    (128, 0, 128, None, Some(FileError::Blocked)),
-    (
-        48,
-        0,
-        128,
-        Some(FileError::NotBlocked),
-        Some(FileError::Seal),
-    ),
-    (
-        48,
-        2,
-        128,
-        Some(FileError::Reserved),
-        Some(FileError::Reserved),
-    ),
-    (
-        56,
-        1,
-        128,
-        Some(FileError::Reserved),
-        Some(FileError::Reserved),
-    ),
-    (
-        16,
-        7,
-        120,
-        Some(FileError::PartOfALine),
-        Some(FileError::Blocked),
-    ),
-    (
-        16,
-        7,
-        128,
-        Some(FileError::TooLong),
-        Some(FileError::TooLong),
-    ),
-    (16, 16, 128, Some(FileError::Cut), Some(FileError::Cut)),
-    (40, 5, 128, Some(FileError::Seal), Some(FileError::Blocked)),
-    (64, 1, 128, Some(FileError::Seal), Some(FileError::Blocked)),
-];
-
-// The worked file with another number at an offset.
-fn changed(place: usize, number: u64) -> [u8; 128] {
-    let mut file = WORKED;
-    if place <= 64 {
-        file[place..place + 8].copy_from_slice(&number.to_le_bytes());
-    }
-    file
-}
-
-// Why lines aren't read of these bytes, and why no others are, if both ways to read agree on it.
-fn refusals(alloc: Global, bytes: &[u8]) -> Option<(Option<FileError>, Option<FileError>)> {
-    let (mut lines, mut plain) = (bytes, bytes);
-    let by_lines = BlockedBloomFilter::from_bytes(alloc, bytes).err();
-    let by_plain = BloomFilter::from_bytes(alloc, bytes).err();
-    let is_agreed = (BlockedBloomFilter::read_file(alloc, &mut lines).err() == by_lines)
-        & (BloomFilter::read_file(alloc, &mut plain).err() == by_plain);
-    if is_agreed {
-        Some((by_lines, by_plain))
-    } else {
-        None
-    }
-}
-
-#[test]
-fn each_kind_of_file_is_refused_where_the_other_is_read(rt: HostRuntime) {
-    for (i, (place, number, length, by_lines, by_plain)) in REFUSED.iter().enumerate() {
-        let file = changed(*place, *number);
-        let refusals = refusals(rt.alloc(), &file[..(*length).min(128)]);
-        assert!(rt; tell_row(&rt, i, refusals == Some((*by_lines, *by_plain))));
+fn blocked_filters_come_back_from_their_files(rt: HostRuntime) {
+    for lines in [1, 2, 64, 513] {
+        assert!(rt; tell_row(&rt, lines, is_kept(rt.alloc(), lines)));
     }
 }

@@ -5,15 +5,6 @@ use crate::telling::{WRONG, is_given, word_of, word_without};
 use fastbloom::{FilterError, Pass, SeatedBloomFilter};
 use std::alloc::Global;
 
-/// Whether a filter of one word has the three passes that were asked for.
-pub(super) fn opened(alloc: Global) -> Result<bool, FilterError> {
-    let words = [0].to_vec(alloc)?;
-    match SeatedBloomFilter::new(alloc, words, 2, 3) {
-        Ok((_filter, passes)) => Ok(passes.len() == 3),
-        Err(refusal) => Err(refusal),
-    }
-}
-
 // Whether what one pass inserts is new, and is found by the other.
 fn is_shared(filter: &SeatedBloomFilter, first: &mut Pass, second: &mut Pass) -> bool
     requires first { first.old.filter ≡ filter.now.table }
@@ -34,10 +25,10 @@ fn is_closed(closed: Result<Vec<u64>, FilterError>) -> Result<bool, FilterError>
     }
 }
 
-/// How `close` ended after two of the passes called, if there was room for the filter.
+/// How `close` ended after two of the passes called, or why there is no filter.
 pub(super) fn closed(alloc: Global) -> Result<&'static str, FilterError> {
     let words = [0].to_vec(alloc)?;
-    let (filter, mut passes) = SeatedBloomFilter::new(alloc, words, 2, 3)?;
+    let (filter, mut passes) = SeatedBloomFilter::new(alloc, words, 2, 2)?;
     let Some(mut first) = passes.pop() else {
         unreachable!()
     };
@@ -53,7 +44,7 @@ pub(super) fn closed(alloc: Global) -> Result<&'static str, FilterError> {
 /// How the calls by two passes ended, if there was room for the filter.
 pub(super) fn called(alloc: Global) -> Result<&'static str, FilterError> {
     let words = [0].to_vec(alloc)?;
-    let (filter, mut passes) = SeatedBloomFilter::new(alloc, words, 2, 3)?;
+    let (filter, mut passes) = SeatedBloomFilter::new(alloc, words, 2, 2)?;
     let Some(mut first) = passes.pop() else {
         unreachable!()
     };

@@ -2,33 +2,28 @@
 //! once more, and then makes the calls. dev/starve refuses that request and all behind it.
 use super::seated::called;
 use crate::answers;
-use crate::concrete::rates_are_compared;
 use crate::follow::first_broken;
-use crate::making::{Pair, Refused, data_of, have_words, pair_of, words_of};
-use crate::memory::{have_same_shape, have_same_words, meet_both};
+use crate::making::{Pair, Refused, have_words, pair_of};
+use crate::memory::{compare_with, meet_both};
 use crate::scene::Op::{
-    Clear, Contains, ContainsItem, Extend, Insert, InsertItem, IsEmpty, Ones, Rate, Shape,
+    Clear, Contains, ContainsItem, Estimates, Extend, Insert, InsertAll, InsertItem, Ones,
     UniteWithItself, Words,
 };
-use crate::scene::{Item, Line, Make, SEED_42, Size, Told};
+use crate::scene::{Item, Line, Make, Size};
 use crate::telling::{NO_ROOM, is_given, say, word_without};
-use fastbloom::{AtomicBloomFilter, BloomFilter, DefaultHasher, FilterData, FilterError};
-use std::alloc::Global;
+use fastbloom::{BitsData, BloomFilter, DefaultHasher, FilterData, FilterError};
+use std::alloc::{AllocError, Global};
 
 // Calls on filters of one word of zeros and two hashes. Hash 1 has the positions 0 and 20.
 const LINES: &'static [Line] = &[
-    (Shape(64, 2), true),
-    (
-        Rate(Told::Expected(1), 8867011522199552, 8867011522199552),
-        true,
-    ),
+    (Estimates, true),
     (InsertItem(Item::Number(2)), false),
     (InsertItem(Item::Number(2)), true),
     (ContainsItem(Item::Number(2)), true),
     (Extend(3, 7), true),
     (ContainsItem(Item::Number(6)), true),
+    (InsertAll(&[7, 8]), true),
     (Clear, true),
-    (IsEmpty, true),
     (Contains(1), false),
     (Insert(1), false),
     (Insert(1), true),
@@ -43,15 +38,11 @@ fn filters_of(alloc: Global, words: &'static [u64]) -> Result<Pair, Refused> {
     pair_of(alloc, &Make::Words(words, 42, Size::Hashes(2)))
 }
 
-// Whether calls with filters of the word 6 do what they are to, and those with items that are lent.
+// Whether calls with filters of the word 6 do what they are to.
 fn are_met(pair: &mut Pair, others: &Pair) -> bool {
     let united = meet_both(pair, others, true) & have_words(pair, &[1048583]);
     let common = meet_both(pair, others, false) & have_words(pair, &[6]);
-    let same = have_same_shape(pair, others, true) & have_same_words(pair, others, true);
-    answers::clear(pair);
-    pair.plain.insert_all(&[1u64, 2]);
-    pair.shared.insert_all(&[1u64, 2]);
-    united & common & same & answers::finds(pair, 1, 3)
+    united & common & compare_with(pair, others, true, true) & answers::clear(pair)
 }
 
 // How calls on filters ended.
@@ -72,72 +63,46 @@ fn filters_called(alloc: Global) -> Result<&'static str, Refused> {
 
 #[test]
 fn calls_on_filters_take_no_memory(rt: HostRuntime) {
-    assert!(rt;
-        say(
-            &rt,
-            "filters",
-            filters_called(rt.alloc()).unwrap_or(NO_ROOM)
-        )
-    );
+    let ended = filters_called(rt.alloc()).unwrap_or(NO_ROOM);
+    assert!(rt; say(&rt, "filters", ended));
 }
 
-// The word 5 for four filters, and data.
-#[derive(Drop)]
-struct Given {
-    hashed: Vec<u64>,
-    expected: Vec<u64>,
-    filled: Vec<u64>,
-    shared: Vec<u64>,
-    form: FilterData,
+// The word 5, twice, and as data with the key of seed 42.
+type Given = (Vec<u64>, Vec<u64>, FilterData);
+
+fn make_given(alloc: Global) -> Result<Given, AllocError> {
+    let form = FilterData {
+        bits: BitsData {
+            bits: [5].to_vec(alloc)?,
+        },
+        num_hashes_minus_one: 1,
+        k0: 0,
+        k1: 3026418949592973312,
+    };
+    Ok(([5].to_vec(alloc)?, [5].to_vec(alloc)?, form))
 }
 
-fn make_given(alloc: Global) -> Result<Given, Refused> {
-    Ok(Given {
-        hashed: words_of(alloc, &[5])?,
-        expected: words_of(alloc, &[5])?,
-        filled: words_of(alloc, &[5])?,
-        shared: words_of(alloc, &[5])?,
-        form: data_of(alloc, &[5], 1, 0, SEED_42)?,
-    })
-}
-
-// Whether filters are built of words and of data, and builders of words and of rates, as they are
-// to be.
-fn are_built(given: Given) -> Result<bool, FilterError> {
-    let Given {
-        hashed,
-        expected,
-        filled,
-        shared,
-        form,
-    } = given;
-    let hashed = BloomFilter::from_vec(hashed)?.seed(&42).hashes(2);
-    let expected = BloomFilter::from_vec(expected)?
-        .hasher(DefaultHasher::seeded(&[0; 16]))
-        .expected_items(2);
-    let filled = BloomFilter::from_vec(filled)?.items(&[1u64, 2]);
-    let shared = AtomicBloomFilter::from_vec(shared)?.hasher(DefaultHasher::seeded(&[0; 16]));
-    let is_sized = (expected.num_hashes() == 22) & (filled.num_hashes() == 22);
-    let is_filled = filled.contains(&1u64) & filled.contains(&2u64);
-    let is_kept = (expected.as_slice() == [5].as_slice()) & (shared == shared);
-    Ok(is_sized & is_filled & is_kept & (BloomFilter::from_data(form)? == hashed))
+// Whether filters are built of words and of data as they are to be, and an empty list asks for
+// nothing.
+fn are_built(alloc: Global, given: Given) -> Result<bool, FilterError> {
+    let (hashed, expected, form) = given;
+    let mut hashed = BloomFilter::from_vec(hashed)?.seed(&42).hashes(2);
+    let none = hashed.replay(alloc, &[])?;
+    let expected = BloomFilter::from_vec(expected)?.hasher(DefaultHasher::seeded(&[0; 16]));
+    let is_filled = expected.items(&[1u64, 2]).contains(&2u64);
+    Ok(is_filled & none.is_empty() & (BloomFilter::from_data(form)? == hashed))
 }
 
 // How builders ended.
-fn built(alloc: Global) -> &'static str {
-    match make_given(alloc) {
-        Ok(given) => {
-            let is_left = is_given(alloc);
-            let are_compared = matches!(rates_are_compared(), Ok(true));
-            word_without(is_left, are_compared & matches!(are_built(given), Ok(true)))
-        }
-        Err(_refused) => NO_ROOM,
-    }
+fn built(alloc: Global) -> Result<&'static str, AllocError> {
+    let given = make_given(alloc)?;
+    let is_left = is_given(alloc);
+    Ok(word_without(is_left, matches!(are_built(alloc, given), Ok(true))))
 }
 
 #[test]
-fn builders_of_words_and_rates_take_no_memory(rt: HostRuntime) {
-    assert!(rt; say(&rt, "builders", built(rt.alloc())));
+fn builders_of_words_and_data_take_no_memory(rt: HostRuntime) {
+    assert!(rt; say(&rt, "builders", built(rt.alloc()).unwrap_or(NO_ROOM)));
 }
 
 #[test]

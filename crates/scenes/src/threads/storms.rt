@@ -167,20 +167,14 @@ fn shared_by(alloc: Global, storm: &Storm) -> Result<Shared, FilterError> {
     Ok(Arc::new(alloc, made(alloc, storm)?)?)
 }
 
-// The threads of a storm whose filter is let go.
-fn let_go<R: Threads>(rt: &R, alloc: Global, storm: &Storm) -> Result<Vec<Child>, FilterError> {
-    let shared = shared_by(alloc, storm)?;
-    start(rt, alloc, &shared, storm.tasks)
-}
-
 // Whether a storm ends well whose filter is let go.
-fn lets_go<R: Threads>(rt: &R, alloc: Global, storm: &Storm) -> bool {
-    match let_go(rt, alloc, storm) {
-        Ok(children) => {
-            let (_new, wrong) = join_all(rt, children);
-            wrong == 0
-        }
-        Err(_refusal) => false,
+fn lets_go<R: Threads>(rt: &R, alloc: Global, storm: &Storm) -> Result<bool, FilterError> {
+    let shared = shared_by(alloc, storm)?;
+    let started = start(rt, alloc, &shared, storm.tasks);
+    drop(shared);
+    match started {
+        Ok(children) => Ok(join_all(rt, children).1 == 0),
+        Err(refusal) => Err(refusal),
     }
 }
 
@@ -218,7 +212,7 @@ fn keeps<R: Threads>(rt: &R, alloc: Global, storm: &Storm) -> bool {
 fn storms_lose_no_bit_and_leave_a_filter_that_is_as_new(rt: HostRuntime) {
     for storm in STORMS {
         let ends = match storm.end {
-            End::LetGo => lets_go(&rt, rt.alloc(), storm),
+            End::LetGo => matches!(lets_go(&rt, rt.alloc(), storm), Ok(true)),
             End::Alone | End::Kept => keeps(&rt, rt.alloc(), storm),
         };
         assert!(rt; tell_named(&rt, storm.name, ends));

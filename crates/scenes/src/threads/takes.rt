@@ -7,56 +7,33 @@ use std::alloc::Global;
 use std::sync::Arc;
 use std::thread::Threads;
 
-// Unites a filter with another, if it has its shape.
-fn unite(kept: &mut BloomFilter, taken: &BloomFilter) -> bool {
-    if !kept.same_shape(taken) {
-        return false;
-    }
-    kept.union(taken);
-    true
-}
-
-// Unites words that were taken with those that are kept.
-fn keep(kept: &mut BloomFilter, words: Vec<u64>) -> bool {
-    match BloomFilter::from_vec(words) {
-        Ok(builder) => unite(kept, &builder.hashes(3)),
-        Err(_refusal) => false,
-    }
-}
+// The words of 4096 bits.
+type Kept = [u64; 64];
 
 // Takes the words out, and unites those that are kept with them.
-fn take(alloc: Global, filter: &AtomicBloomFilter, kept: &mut BloomFilter) -> bool {
+fn take(alloc: Global, filter: &AtomicBloomFilter, kept: &mut Kept) -> bool {
     match filter.take_words(alloc) {
-        Ok(words) => keep(kept, words),
-        Err(_refusal) => false,
-    }
-}
-
-// A plain filter that is empty.
-fn plain_filter(alloc: Global) -> Result<BloomFilter, FilterError> {
-    Ok(BloomFilter::with_num_bits(alloc, 4096)?.hashes(3))
-}
-
-// Inserts all hashes.
-fn insert_all(filter: &mut BloomFilter) {
-    for i in 0..2000u64 {
-        filter.insert_hash(spread(i));
-    }
-}
-
-// Whether a filter is that which one thread makes of the hashes.
-fn is_made_alone(alloc: Global, filter: &BloomFilter) -> bool {
-    match plain_filter(alloc) {
-        Ok(mut alone) => {
-            insert_all(&mut alone);
-            alone == *filter
+        Ok(words) => {
+            for (i, word) in words.as_slice().iter().enumerate() {
+                kept[i % 64] |= *word;
+            }
+            words.len() == 64
         }
         Err(_refusal) => false,
     }
 }
 
+// Whether these are the words that one thread makes of the hashes.
+fn are_made_alone(alloc: Global, kept: &Kept) -> Result<bool, FilterError> {
+    let mut filter = BloomFilter::with_num_bits(alloc, 4096)?.hashes(3);
+    for i in 0..2000u64 {
+        filter.insert_hash(spread(i));
+    }
+    Ok(filter.as_slice() == kept.as_slice())
+}
+
 // Takes 100 times. Look-ups in between spread this over the time of the inserts.
-fn take_often(alloc: Global, filter: &AtomicBloomFilter, kept: &mut BloomFilter) -> bool {
+fn take_often(alloc: Global, filter: &AtomicBloomFilter, kept: &mut Kept) -> bool {
     let mut all = true;
     for i in 0..100u64 {
         all &= take(alloc, filter, kept);
@@ -65,18 +42,13 @@ fn take_often(alloc: Global, filter: &AtomicBloomFilter, kept: &mut BloomFilter)
     all
 }
 
-// A shared filter that is empty.
-fn empty_filter(alloc: Global) -> Result<AtomicBloomFilter, FilterError> {
-    AtomicBloomFilter::with_num_bits(alloc, 4096)?.hashes(alloc, 3)
-}
-
 // Takes words out while these threads insert, and the rest once they ended: whether none are left.
 fn take_beside<R: Threads>(
     rt: &R,
     alloc: Global,
     children: Vec<Child>,
     shared: &AtomicBloomFilter,
-    kept: &mut BloomFilter,
+    kept: &mut Kept,
 ) -> bool {
     let are_taken = take_often(alloc, shared, kept);
     join_all(rt, children);
@@ -84,7 +56,7 @@ fn take_beside<R: Threads>(
 }
 
 // Takes out the words that two threads insert.
-fn take_all<R: Threads>(rt: &R, alloc: Global, shared: &Shared, kept: &mut BloomFilter) -> bool {
+fn take_all<R: Threads>(rt: &R, alloc: Global, shared: &Shared, kept: &mut Kept) -> bool {
     let tasks = [(Act::Insert, 0, 1000), (Act::Insert, 1000, 2000)];
     match start(rt, alloc, shared, &tasks) {
         Ok(children) => take_beside(rt, alloc, children, shared, kept),
@@ -92,17 +64,19 @@ fn take_all<R: Threads>(rt: &R, alloc: Global, shared: &Shared, kept: &mut Bloom
     }
 }
 
-// A filter that is to be shared, and one for the words that are taken out of it. Both are empty.
-fn empty_filters(alloc: Global) -> Result<(Shared, BloomFilter), FilterError> {
-    let shared = Arc::new(alloc, empty_filter(alloc)?)?;
-    Ok((shared, plain_filter(alloc)?))
+// A filter that is to be shared, and is empty.
+fn empty_filter(alloc: Global) -> Result<Shared, FilterError> {
+    let filter = AtomicBloomFilter::with_num_bits(alloc, 4096)?.hashes(alloc, 3)?;
+    Ok(Arc::new(alloc, filter)?)
 }
 
 // Whether no bit is lost: each is among the words taken, or still there at the end.
 fn lose_no_bit<R: Threads>(rt: &R, alloc: Global) -> bool {
-    match empty_filters(alloc) {
-        Ok((shared, mut kept)) => {
-            take_all(rt, alloc, &shared, &mut kept) & is_made_alone(alloc, &kept)
+    let mut kept = [0; 64];
+    match empty_filter(alloc) {
+        Ok(shared) => {
+            let are_taken = take_all(rt, alloc, &shared, &mut kept);
+            are_taken & matches!(are_made_alone(alloc, &kept), Ok(true))
         }
         Err(_refusal) => false,
     }

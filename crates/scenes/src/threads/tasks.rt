@@ -1,6 +1,6 @@
 //! What threads do with the filter that they share, and what they count.
 use crate::drawn::spread;
-use fastbloom::{AtomicBloomFilter, BloomFilter, FilterData, FilterError};
+use fastbloom::{AtomicBloomFilter, FilterError};
 use std::alloc::Global;
 
 /// What a thread does at each of its turns.
@@ -73,11 +73,6 @@ fn is_flipped(
     was_clear & is_inserted & is_cleared & is_set
 }
 
-// A shared filter of one word and one hash.
-fn filter_of(alloc: Global, word: u64) -> Result<AtomicBloomFilter, FilterError> {
-    AtomicBloomFilter::from_vec(vec![in alloc; word]?)?.hashes(alloc, 1)
-}
-
 // The same in 10,000 turns.
 fn is_flipped_often(
     filter: &AtomicBloomFilter,
@@ -92,43 +87,37 @@ fn is_flipped_often(
     is_right
 }
 
-// The same, with the filter in which the position alone is clear.
-fn is_flipped_by(
-    alloc: Global,
-    filter: &AtomicBloomFilter,
-    position: u64,
-    without: &AtomicBloomFilter,
-) -> bool {
-    match filter_of(alloc, 1 << (position % 64)) {
-        Ok(alone) => is_flipped_often(filter, position << 58, without, &alone),
-        Err(_refusal) => false,
-    }
+// A shared filter of one word and one hash.
+fn filter_of(alloc: Global, word: u64) -> Result<AtomicBloomFilter, FilterError> {
+    AtomicBloomFilter::from_vec(vec![in alloc; word]?)?.hashes(alloc, 1)
 }
 
 // Whether a look-up of a position is right each time that it is set and cleared. The position of a
 // hash among 64 is its six highest bits.
-fn is_always_flipped(alloc: Global, filter: &AtomicBloomFilter, position: u64) -> bool {
-    match filter_of(alloc, !(1 << (position % 64))) {
-        Ok(without) => is_flipped_by(alloc, filter, position, &without),
-        Err(_refusal) => false,
+fn is_always_flipped(
+    alloc: Global,
+    filter: &AtomicBloomFilter,
+    position: u64,
+) -> Result<bool, FilterError> {
+    let bit = 1 << (position % 64);
+    let without = filter_of(alloc, !bit)?;
+    match filter_of(alloc, bit) {
+        Ok(alone) => Ok(is_flipped_often(filter, position << 58, &without, &alone)),
+        Err(refusal) => Err(refusal),
     }
 }
 
-// How many bits are set in words, less than none, and whether there was room to count them.
-fn less_ones(words: Vec<u64>) -> (u64, bool) {
-    match BloomFilter::from_vec(words) {
-        Ok(builder) => {
-            let ones = builder.hashes(1).count_ones();
-            (0u64.wrapping_sub(ones as u64), true)
-        }
-        Err(_refusal) => (0, false),
-    }
-}
-
-// The same of the words that are taken out.
+// How many bits are set in the words that are taken out, less than none, and whether there was
+// room for the words.
 fn take_out(alloc: Global, filter: &AtomicBloomFilter) -> (u64, bool) {
     match filter.take_words(alloc) {
-        Ok(words) => less_ones(words),
+        Ok(words) => {
+            let mut less = 0u64;
+            for word in words.as_slice() {
+                less = less.wrapping_sub(word.count_ones() as u64);
+            }
+            (less, true)
+        }
         Err(_refusal) => (0, false),
     }
 }
@@ -141,19 +130,15 @@ fn is_copied(alloc: Global, filter: &AtomicBloomFilter) -> bool {
     }
 }
 
-// Whether data have the zero key and the filter's shape.
-fn are_data(alloc: Global, form: FilterData, filter: &AtomicBloomFilter) -> bool {
-    let has_no_key = (form.k0 == 0) & (form.k1 == 0);
-    match AtomicBloomFilter::from_data(alloc, form) {
-        Ok(other) => has_no_key & other.same_shape(filter),
-        Err(_refusal) => false,
-    }
-}
-
-// Whether the filter's data do.
+// Whether the filter's data have its shape and the zero key.
 fn has_data(alloc: Global, filter: &AtomicBloomFilter) -> bool {
     match filter.to_data(alloc) {
-        Ok(form) => are_data(alloc, form, filter),
+        Ok(form) => {
+            let has_length = form.bits.bits.len() == filter.num_bits() / 64;
+            let num_hashes = form.num_hashes_minus_one.checked_add(1);
+            let has_hashes = num_hashes == Some(filter.num_hashes());
+            has_length & has_hashes & (form.k0 == 0) & (form.k1 == 0)
+        }
         Err(_refusal) => false,
     }
 }
@@ -175,7 +160,10 @@ fn turn(alloc: Global, filter: &AtomicBloomFilter, act: Act, i: u64) -> (u64, bo
         Act::Take => take_out(alloc, filter),
         Act::Clone => (0, is_copied(alloc, filter)),
         Act::Data => (0, has_data(alloc, filter)),
-        Act::Flip(position) => (0, is_always_flipped(alloc, filter, position)),
+        Act::Flip(position) => {
+            let flipped = is_always_flipped(alloc, filter, position);
+            (0, matches!(flipped, Ok(true)))
+        }
     }
 }
 

@@ -18,27 +18,17 @@ pub(super) fn count_new(alloc: Global) -> Result<u64, FilterError> {
     Ok(insert_hashes(&filter, &mut pass, &[1, 2, 1]))
 }
 
-// Whether a rotation gives what was inserted, and leaves nothing.
-fn rotates(alloc: Global, live: &AtomicBloomFilter) -> bool {
-    live.insert_hash(1);
-    let is_given = match rotate(alloc, live, &42) {
-        Ok(past) => past.as_slice() == [WORD_OF_ONE].as_slice(),
-        Err(_refusal) => false,
-    };
-    is_given & !live.contains_hash(1)
-}
-
-// A filter to rotate.
-fn live_filter(alloc: Global) -> Result<AtomicBloomFilter, FilterError> {
+/// Whether a rotation gives what was inserted, and leaves nothing.
+pub(super) fn is_rotated(alloc: Global) -> Result<bool, FilterError> {
     let builder = AtomicBloomFilter::with_num_bits(alloc, 64)?.seed(&42);
-    builder.hashes(alloc, 2)
-}
-
-/// Whether a filter is rotated.
-pub(super) fn is_rotated(alloc: Global) -> bool {
-    match live_filter(alloc) {
-        Ok(live) => rotates(alloc, &live),
-        Err(_refusal) => false,
+    let live = builder.hashes(alloc, 2)?;
+    live.insert_hash(1);
+    match rotate(alloc, &live, &42) {
+        Ok(past) => {
+            let is_given = past.as_slice() == [WORD_OF_ONE].as_slice();
+            Ok(is_given & !live.contains_hash(1))
+        }
+        Err(refusal) => Err(refusal),
     }
 }
 

@@ -3,7 +3,7 @@ use Rattle.bloom_parts.specs.Content.{content}
 use Rattle.bloom_blocked.specs.Lines.{are_in_line}
 use Rattle.bloom_blocked.proofs.many.contains_hashes.Given as goal
 
--- the words so far tell whether their hashes are contained, and no other bit is on
+-- the words so far tell whether their hashes are contained, and no other bit is set
 abbrev pub invariant-turns : goal.invariant-turns
 invariant-turns l = record {
   bits : (p : ℕ) → content l.found p ≡ (nat_lt p (64 * l.turn) && (nat_lt p (length l.hashes)

@@ -3,7 +3,7 @@ use Rattle.bloom_parts.specs.Content.{content}
 use Rattle.bloom_blocked.specs.Lines.{are_in_line}
 use Rattle.bloom_blocked.proofs.many.found_bits.Given as goal
 
--- the bits of the hashes so far tell whether these are contained, and no other is on
+-- the bits of the hashes so far tell whether these are contained, and no other is set
 abbrev pub invariant-looks : goal.invariant-looks
 invariant-looks l = record {
   bits : (p : ℕ) → content (l.found ∷ []) p ≡ (nat_lt p l.hash-index

@@ -1,10 +1,10 @@
--- What steps that turn positions on do one after the other.
+-- What steps that set positions do one after the other.
 use Rattle.std.proofs.Common.{◌≡◌, ℕ, Bool, true, false, ◌||◌, ◌&&◌, inl, inr, refl, ap, ◌∙◌, subst}
 use Rattle.std.proofs.lemmas.Bool.{both_ways, or_cases, or_left, or_right, false_from_ne_true, and_parts}
 use Rattle.bloom_parts.specs.Content.{content}
 use Rattle.fastbloom.specs.Passes.{Sight, known_of, gained_of, sure_of, HasGained, InsertsAs}
 
--- no step turns on no position
+-- no step sets no position
 pub inserts-none : (old : Sight) → InsertsAs (λ p. false) old old true
 inserts-none old = record {
   same = record { filter = refl; start = refl };
@@ -19,7 +19,7 @@ inserts-none old = record {
     or-none true = refl
     or-none false = refl
 
--- steps one after the other turn on the positions of both
+-- steps one after the other set the positions of both
 module _ (P Q : ℕ → Bool) (old mid new : Sight) (a b : Bool) (first : InsertsAs P old mid a)
     (second : InsertsAs Q mid new b) where
   -- what a pass can't be sure of after the first step it couldn't be sure of before

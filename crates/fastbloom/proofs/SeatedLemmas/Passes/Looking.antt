@@ -16,7 +16,7 @@ module _ (table : TableId) (v : Sets) (q found : ℕ) (shown : Shows v (q / 64) 
   abbrev after : Sets
   after = after_load v (q / 64) found
 
-  -- the pass can't be sure of what the load found off
+  -- the pass can't be sure of what the load found clear
   off-after : bit_is_on found q ≡ false → sure_in after q ≡ false
   off-after off = false_from_ne_true (sure_in after q) (λ sure.
       elim (or_cases (content v.start q) (set_of after.known q) sure) [

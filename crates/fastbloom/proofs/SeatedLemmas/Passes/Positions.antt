@@ -18,7 +18,7 @@ module _ (q found : ℕ) where
   abbrev pub mask_of : ℕ
   mask_of = 2 ^ (q % 64)
 
-  -- the position alone is on in its mask
+  -- the position alone is set in its mask
   pub mask-alone : (p : ℕ) → set_of (on_in (q / 64) mask_of) p ≡ eqb p q
   mask-alone p =
       same-tests (set_of (on_in (q / 64) mask_of) p) (eqb p q)

@@ -1,4 +1,4 @@
--- What the step that turns a position on does to what a pass knows and gained.
+-- What the step that sets a position does to what a pass knows and gained.
 use Rattle.std.proofs.Common.{◌≡◌, ℕ, ◌/◌, ◌%◌, ◌^◌, Bool, true, false, ◌||◌, eqb, inl, inr, refl, sym, ap, ◌∙◌, subst}
 use Rattle.std.proofs.lemmas.Bool.{both_ways, or_right, eqb-true, eq-eqb, false_from_ne_true}
 use Rattle.atomic_table.specs.Seated.{TableId}
@@ -12,13 +12,13 @@ use Rattle.fastbloom.specs.declared.seated.rule.Sets.{Sets}
 use Rattle.fastbloom.proofs.SeatedLemmas.Sets.{in-left, in-right, in-either, set_of-append, fresh-from, fresh-to}
 use Rattle.fastbloom.proofs.SeatedLemmas.Passes.Positions.{seen, mask_of, mask-alone}
 
--- the step that turns a position on
+-- the step that sets a position
 module _ (table : TableId) (v : Sets) (q found : ℕ) (shown : Shows v (q / 64) found)
     (part : IsPart (set_of v.gained) (set_of v.known)) where
   abbrev turned : Sets
   turned = after_or v (q / 64) (mask_of q found) found
 
-  -- what was found off could not be known
+  -- what was found clear could not be known
   unsure : bit_is_on found q ≡ false → sure_in v q ≡ false
   unsure off = false_from_ne_true (sure_in v q)
       (λ sure. both_ways (bit_is_on found q) off (shown q refl sure))
@@ -68,7 +68,7 @@ module _ (table : TableId) (v : Sets) (q found : ℕ) (shown : Shows v (q / 64) 
         ];
   }
 
--- from old to new a seat turned a position on, as its step tells
+-- from old to new a seat set a position, as its step tells
 pub by-turn : (old new : FilterSeat) (q word mask found : ℕ) (on : Bool) → word ≡ q / 64
     → mask ≡ 2 ^ (q % 64) → on ≡ bit_is_on found q → new.table_id ≡ old.table_id
     → (new.me.0 ≡ after_or old.me.0 word mask found) × Shows old.me.0 word found

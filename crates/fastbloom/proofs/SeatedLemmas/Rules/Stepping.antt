@@ -97,7 +97,7 @@ module _ {count passes : ℕ} (s : Standing) (rule : IsSeated count passes s) (s
     }
   ]
 
-  -- what is on was there at the start or was gained
+  -- what is set was there at the start or was gained
   account : (p : ℕ) → content words p ≡ true → (content rule.start p ≡ true) ⊎ IsGained after p
   account p on = elim (step.accounted p on) [
     | inl was ↦ elim (rule.accounted p was) [
@@ -112,7 +112,7 @@ module _ {count passes : ℕ} (s : Standing) (rule : IsSeated count passes s) (s
     })
   ]
 
-  -- what the seat gained was off at the start
+  -- what the seat gained was clear at the start
   not-begun : (p : ℕ) → set_of w.gained p ≡ true → content rule.start p ≡ false
   not-begun p mine = elim (step.gained p mine) [
     | inl old ↦ rule.gained_new seat v at p old

@@ -25,7 +25,7 @@ pub same-passes : {count passes : ℕ} (s : Standing) → IsSeated count passes 
 same-passes s rule seat v w at same =
     let more = passes-set s.views seat v w at in omega (arith, more, same, rule.few)
 
--- what a pass is sure of is on
+-- what a pass is sure of is set
 module _ {count passes : ℕ} (s : Standing) (rule : IsSeated count passes s) (seat : ℕ) (v : Sets)
     (at : Has s seat v) (live : v.role ≢ Spent) where
   pub sure-on : IsPart (sure_in v) (content s.words)

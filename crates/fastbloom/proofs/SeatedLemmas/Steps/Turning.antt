@@ -39,7 +39,7 @@ module _ {count passes : ℕ} (s : Standing) (rule : IsSeated count passes s) (s
       on-after p ∙ or_right (content s.words p) (eqb (p / 64) i && bit_is_on mask p)
       (and_from (eqb (p / 64) i) (bit_is_on mask p) (eq-eqb (p / 64) i there.0) there.1)
 
-  -- what is on after it was on or is gained
+  -- what is set after it was set or is gained
   account-or : (p : ℕ) → content (with_bits s.words i mask) p ≡ true
       → (content s.words p ≡ true) ⊎ (set_of new.gained p ≡ true)
   account-or p on = elim (cases_Bool (content s.words p)) [

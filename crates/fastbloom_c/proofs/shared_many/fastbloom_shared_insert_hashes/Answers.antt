@@ -10,6 +10,7 @@ returns-clause-made c = λ _.
     let k : c.max-num_hashes.result ≡ max 1 c.args.num_hashes = search rules in
     let vector : c.new-lent.result ≡ vector_of words.at words.len =
     c.new-lent.ensures
+    ∙ ap (λ given. vector_of given.at given.len) c.in-Some.ensures.same
     ∙ ap (λ at. vector_of at c.shared-words.result.len) c.shared-words.ensures.at
     ∙ ap (vector_of words.at) c.shared-words.ensures.len in
     subst (λ v. WereInserted v (max 1 c.args.num_hashes) hashes) vector

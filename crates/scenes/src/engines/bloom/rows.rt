@@ -1,4 +1,4 @@
-//! The arguments and the runs of the program, and what each fault tells.
+//! The arguments and the runs of the program.
 use crate::engines::faulty::{
     FAILING, FLUSHED_ONCE, FULL, ROOMY, Reading, SHUT, STUCK, UNFLUSHED, WHOLE, Writing,
 };
@@ -152,18 +152,4 @@ pub(super) const FAULTS: &'static [Failing] = &[
     ("i 1\n", WHOLE, UNFLUSHED, "", OUTPUT, 0),
     ("x\n", WHOLE, UNFLUSHED, "", OUTPUT, 0),
     ("x\n", WHOLE, FLUSHED_ONCE, "", OUTPUT, 0),
-];
-
-/// What each fault tells, and its status.
-pub(super) const TEXTS: &'static [(Fault, &'static str, u8)] = &[
-    (Fault::Usage, "usage: bloom WORDS HASHES", 2),
-    (Fault::Line(1), "line 1: bad command", 2),
-    (
-        Fault::Line(u64::MAX),
-        "line 18446744073709551615: bad command",
-        2,
-    ),
-    (Fault::Memory, "no memory", 3),
-    (INPUT, "input failed", 4),
-    (OUTPUT, "output failed", 4),
 ];

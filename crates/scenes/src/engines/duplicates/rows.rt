@@ -1,9 +1,9 @@
-//! Runs, what each writes, and how it ends; and what each fault tells.
+//! Runs, what each writes, and how it ends.
 mod run;
 
 use crate::engines::faulty::{FLUSHED_ONCE, FULL, NARROW, SLOW, STUCK, UNFLUSHED};
-use bloom_plain::{FilterError, GrowingError};
 use duplicates_engine::{Fault, Tally, Total, Written};
+use fastbloom::{FilterError, GrowingError};
 use run::{LATE, PASSING};
 pub(crate) use run::{PLAIN, Run};
 use std::io::ErrorKind;
@@ -216,23 +216,4 @@ pub(super) const READS: &'static [(&'static [&'static str], &'static str)] = &[
     (&["ab\nc\nab\n\n"], "ab\nc\n\n"),
     (&["ab\nc\nab\n\nd"], "ab\nc\n\n"),
     (&["ab", "c\n"], ""),
-];
-
-/// What each fault tells.
-pub(super) const TEXTS: &'static [(Fault, &'static str)] = &[
-    (Fault::TooLong(7), "line 7 is too long"),
-    (Fault::Memory, "out of memory"),
-    (Fault::Full, "the filter can take no more lines"),
-    (
-        Fault::Open(ErrorKind::WriteZero),
-        "it can't be opened: write zero",
-    ),
-    (
-        Fault::Input(ErrorKind::WriteZero),
-        "it can't be read: write zero",
-    ),
-    (
-        Fault::Output(ErrorKind::WriteZero),
-        "the output can't be written: write zero",
-    ),
 ];

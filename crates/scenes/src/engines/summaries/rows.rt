@@ -50,6 +50,16 @@ const LINES: &[u8] = b"fbloom\01\x02\0\0\0\0\0\0\0\x08\0\0\0\0\0\0\0\
 const TEXT: &[u8] =
     b"{\"bits\":{\"bits\":[268500992]},\"num_hashes_minus_one\":1,\"k0\":0,\"k1\":0}\n";
 
+// The file and the text of the same words under the key whose two words are 1 and 2.
+const KEYED: &[u8] = b"fbloom\01\x02\0\0\0\0\0\0\0\
+    \x01\0\0\0\0\0\0\0\x01\0\0\0\0\0\0\0\
+    \x02\0\0\0\0\0\0\0\xa7g\xe2\x02LX\xe1\x87\
+    \0\0\0\0\0\0\0\0\0\0\0\0\0\0\0\0\
+    \0\0\x01\x10\0\0\0\0";
+
+const KEYED_TEXT: &[u8] =
+    b"{\"bits\":{\"bits\":[268500992]},\"num_hashes_minus_one\":1,\"k0\":1,\"k1\":2}\n";
+
 /// What is told of a read that fails.
 pub(crate) const UNREAD: &'static str = "odd: it can't be read: broken pipe";
 
@@ -62,6 +72,8 @@ pub(crate) enum Act {
     Ask,
     /// The file that it is.
     Load,
+    /// The text of the file that it is.
+    LoadText,
     /// The file of the filter of "a", and its text.
     Put,
     PutText,
@@ -105,6 +117,8 @@ pub(crate) const ACTS: &'static [Row] = &[
     (Act::Load, BOTH, WHOLE, ROOMY, BOTH, ""),
     (Act::Load, TEXT, SLOW, NARROW, A, ""),
     (Act::Load, TEXT, FAILING, ROOMY, b"", UNREAD),
+    (Act::Load, KEYED_TEXT, SLOW, NARROW, KEYED, ""),
+    (Act::LoadText, KEYED, SLOW, NARROW, KEYED_TEXT, ""),
     (Act::Load, LINES, SLOW, NARROW, LINES, ""),
     (Act::Load, LINES, FAILING, ROOMY, b"", UNREAD),
     (

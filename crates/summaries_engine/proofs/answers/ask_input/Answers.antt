@@ -1,6 +1,8 @@
-use Rattle.std.proofs.Common.{◌≡◌, Err, rules}
-use Rattle.summaries_engine.proofs.AskingLemmas.{answering-end, answering-next, answering-none}
-use Rattle.summaries_engine.proofs.StopLemmas.{asking-cut, asking-stops, why-long}
+use Rattle.std.proofs.Common.{◌≡◌, inr, Err, rules}
+use Rattle.std.proofs.lemmas.Result.{IfErr-weaker}
+use Rattle.summaries_engine.specs.Stops.{IsUnwritten}
+use Rattle.summaries_engine.proofs.AskingLemmas.{answering-end, answering-flushed, answering-next, answering-none, on-ok}
+use Rattle.summaries_engine.proofs.StopLemmas.{asking-cut, asking-stops, asking-unflushed, why-long}
 use Rattle.summaries_engine.proofs.answers.ask_input.Goals as goal
 
 -- no key yet
@@ -12,8 +14,18 @@ keys-init g c =
 -- all keys
 pub returns-in-Ok-End-clause-all : goal.returns-in-Ok-End-clause-all
 returns-in-Ok-End-clause-all g c =
-    answering-end c.keys.invariant c.next_line.new.self _
-    (rw c.in-Ok-End.field-0-is at c.in-Ok-End.ensures.next)
+    on-ok c.flush.result _
+    (answering-flushed
+    (answering-end c.keys.invariant c.next_line.new.self _
+    (rw c.in-Ok-End.field-0-is at c.in-Ok-End.ensures.next))
+    c.flush.ensures.kept)
+
+-- the last flush failed
+pub returns-in-Ok-End-clause-stops : goal.returns-in-Ok-End-clause-stops
+returns-in-Ok-End-clause-stops g c =
+    IfErr-weaker c.flush.result IsUnwritten _
+    (λ stop says. inr (asking-unflushed c.keys.invariant c.flush.ensures.kept says))
+    c.flush.ensures.failed
 
 -- a key is too long
 pub returns-in-Ok-TooLong-clause-stops : goal.returns-in-Ok-TooLong-clause-stops

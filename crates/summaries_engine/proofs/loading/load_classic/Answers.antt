@@ -1,6 +1,6 @@
 use Rattle.std.proofs.Common.{ap}
 use Rattle.std.specs.Result.{result_err}
-use Rattle.bloom_plain.specs.declared.file.layout.Layout.TheVariants.{Whole}
+use Rattle.bloom_files.specs.declared.layout.Layout.TheVariants.{Whole}
 use Rattle.summaries_engine.proofs.UnloadedLemmas.{file-right}
 use Rattle.summaries_engine.proofs.loading.load_classic.Goals as goal
 

@@ -2,7 +2,7 @@ use Rattle.std.proofs.Common.{◌*◌, arith}
 use Rattle.bloom_parts.proofs.DensityLemmas.{density-none}
 use Rattle.bloom_parts.proofs.math.estimated.upper_bound.Goals as goal
 
--- no bit is expected to be on of no items, and some is
+-- no bit is expected to be set of no items, and some is
 pub last_passing-requires-clause-zero : goal.last_passing-requires-clause-zero
 last_passing-requires-clause-zero c =
     let filled = c.args.filled in

@@ -2,7 +2,7 @@ use Rattle.std.proofs.Common.{◌-◌, ◌≤◌, true}
 use Rattle.bloom_parts.specs.Stretches.{Advances, TellsNext}
 use Rattle.bloom_parts.proofs.slices.positions.each_is_on.Given as goal
 
--- the places so far are on
+-- the places so far are set
 abbrev pub invariant-places : goal.invariant-places
 invariant-places l = record {
   chain : Advances l.found l.fn.chain l.chain;

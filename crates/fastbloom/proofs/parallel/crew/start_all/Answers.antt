@@ -8,7 +8,7 @@ pub jobs-preserved : goal.jobs-preserved
 jobs-preserved g c =
     let came = c.in-Some.ensures.steps.0 in
     let jobs = c.jobs.invariant in
-    let made = c.in-Some-start.ensures in
+    let made = c.in-Ok.ensures in
     let pushed : vec_len c.push_reserved.new.self ≡ vec_len c.jobs.workers + 1 = search rules in
     let all = c.push_reserved.new.self.items in
     let is = c.push_reserved.ensures.items in record {

@@ -4,7 +4,7 @@ use Rattle.fastbloom.specs.Passes.{Looks, GrowsBeside, sight_of}
 use Rattle.fastbloom.specs.declared.seated.rule.Role.TheVariants.{Pass}
 use Rattle.fastbloom.proofs.seated.looks.find_positions.Given as goal
 
--- the places so far were found on
+-- the places so far were found set
 abbrev pub invariant-places : goal.invariant-places
 invariant-places l = IsAt l.fn.hash l.counter l.chain
     × (l.seat.me.0.role ≡ Pass)

@@ -2,7 +2,7 @@ use Rattle.std.proofs.Common.{refl}
 use Rattle.fastbloom.proofs.SeatedLemmas.Places.{inserts-begin, inserts-next, next-place}
 use Rattle.fastbloom.proofs.seated.looks.insert_positions.Goals as goal
 
--- before the first place nothing is turned on
+-- before the first place nothing is set
 pub places-init : goal.places-init
 places-init c = (c.new-chain.ensures, c.requires.pass, inserts-begin _ c.args.hash _)
 

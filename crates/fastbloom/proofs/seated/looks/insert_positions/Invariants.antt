@@ -5,7 +5,7 @@ use Rattle.fastbloom.specs.Passes.{InsertsAs, sight_of}
 use Rattle.fastbloom.specs.declared.seated.rule.Role.TheVariants.{Pass}
 use Rattle.fastbloom.proofs.seated.looks.insert_positions.Given as goal
 
--- the places so far were turned on
+-- the places so far were set
 abbrev pub invariant-places : goal.invariant-places
 invariant-places l = IsAt l.fn.hash l.counter l.chain
     × (l.seat.me.0.role ≡ Pass)

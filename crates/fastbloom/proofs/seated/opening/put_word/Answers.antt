@@ -5,7 +5,7 @@ use Rattle.fastbloom.proofs.SeatedLemmas.Fills.{fills-on, fills-off}
 use Rattle.fastbloom.proofs.seated.opening.put_word.Goals.{then-value-bit-eq1, else-value-bit-eq1}
 use Rattle.fastbloom.proofs.seated.opening.put_word.Goals as goal
 
--- a bit that is on is put in, and one that is off is there
+-- a bit that is set is put in, and one that is clear is there
 pub bits-preserved : goal.bits-preserved
 bits-preserved c =
     let digit = shr_and_one c.args.value c.bits.bit in

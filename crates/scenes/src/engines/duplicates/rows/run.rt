@@ -1,7 +1,7 @@
 //! What a run is to be.
 use crate::engines::faulty::{ROOMY, Reading, WHOLE, Writing};
-use bloom_plain::GrowingError;
 use duplicates_engine::Written;
+use fastbloom::GrowingError;
 
 /// What a run is to be.
 #[derive(Clone, Copy)]

@@ -1,0 +1,115 @@
+-- The laws of filters that grow.
+use Rattle.std.proofs.Common.{◌≡◌, ℕ, zero, suc, ◌+◌, ◌*◌, ◌^◌, ◌<◌, Bool, true, false, [], ◌∷◌, refl, sym, ◌∙◌, ap, subst, arith, add-one, inl, inr}
+use Rattle.std.proofs.Math.Nat.{mul-pos, pow-suc, lt_of_mul-lt-mul_right}
+use Rattle.std.proofs.lemmas.Bool.{or_cases, or_left, or_right, cases_lt}
+use Rattle.bloom_parts.specs.Rates.{num_of, den_of}
+use Rattle.bloom_parts.specs.declared.math.rate.Rate.{Rate}
+use Rattle.bloom_plain.specs.Filter.{contains}
+use Rattle.bloom_growing.specs.Growing.{Growing, any_contains, has, den_at, newest_room}
+use Rattle.bloom_growing.specs.GrowingInserts.{Begins, MakesRoom, Adds, Takes}
+use Rattle.bloom_growing.specs.GrowingLaws.{GrowingKeptLaw, GrowingFoundLaw, sum_of_rates, RatesBelowLaw}
+use Rattle.bloom_growing.proofs.GrowingLemmas.{has-or}
+use Rattle.bloom_growing.proofs.GrowingKeptLemmas.{some_room_at}
+use Rattle.bloom_plain.proofs.LawLemmas.{insert_law, kept_by_insert_law}
+
+module _ {S : Type 0} where
+  -- an older filter that contains a hash is enough
+  has-older : (g : Growing S) (hash : ℕ) → any_contains g.older hash ≡ true → has g hash ≡ true
+  has-older g hash found = has-or g hash ∙ or_left (any_contains g.older hash) _ found
+
+  -- the newest filter is enough as well
+  has-newest : (g : Growing S) (hash : ℕ) → contains g.newest hash ≡ true → has g hash ≡ true
+  has-newest g hash found = has-or g hash ∙ or_right (any_contains g.older hash) _ found
+
+  -- the filters before the next one are all older then
+  has-begins : (old new : Growing S) (hash : ℕ) → Begins old new → has old hash ≡ true
+      → has new hash ≡ true
+  has-begins old new hash begins found =
+      has-older new hash (ap (λ l. any_contains l hash) begins.older ∙ found)
+
+  -- making room loses no hash
+  has-room : (old new : Growing S) (hash : ℕ) → MakesRoom old new → has old hash ≡ true
+      → has new hash ≡ true
+  has-room old new hash room found = elim (cases_lt old.taken (newest_room old)) [
+    | inl spare ↦ subst (λ g. has g hash ≡ true) (sym (room.spare spare)) found
+    | inr full ↦ has-begins old new hash (room.full full) found
+  ]
+
+  -- one more hash loses no other
+  has-adds : (old new : Growing S) (added hash : ℕ) → Adds old added new → has old hash ≡ true
+      → has new hash ≡ true
+  has-adds old new added hash adds found =
+      elim (or_cases (any_contains old.older hash) (contains old.newest hash)
+      (sym (has-or old hash) ∙ found)) [
+        | inl older ↦
+            has-older new hash (ap (λ l. any_contains l hash) adds.older ∙ older)
+        | inr newest ↦
+            has-newest new hash
+            (kept_by_insert_law S old.newest new.newest added hash false adds.newest newest)
+      ]
+
+  -- an insert by its reply: nothing changed, or the hash was added
+  kept-takes : (old new : Growing S) (came hash : ℕ) (reply held : Bool) → has old came ≡ held
+      → Takes old came new reply → has old hash ≡ true → has new hash ≡ true
+  kept-takes old new came hash reply true is takes found =
+      subst (λ g. has g hash ≡ true) (sym (takes.held is)) found
+  kept-takes old new came hash reply false is takes found =
+      let added = takes.adds is in
+      has-adds added.0 new came hash added.2 (has-room old added.0 hash added.1 found)
+
+  -- a hash that came is contained, whether it was before or not
+  found-takes : (old new : Growing S) (hash : ℕ) (reply held : Bool) → has old hash ≡ held
+      → Takes old hash new reply → has new hash ≡ true
+  found-takes old new hash reply true is takes =
+      subst (λ g. has g hash ≡ true) (sym (takes.held is)) is
+  found-takes old new hash reply false is takes =
+      let added = takes.adds is in
+      has-newest new hash (insert_law S added.0.newest new.newest hash false added.2.newest).1
+
+-- what is contained stays, one insert after the other
+pub growing_kept_law : (S : Type 0) → GrowingKeptLaw S
+growing_kept_law S old new [] hash all found = subst (λ g. has g hash ≡ true) (sym all) found
+growing_kept_law S old new (came ∷ later) hash all found =
+    growing_kept_law S all.0 new later hash all.3
+    (kept-takes old all.0 came hash all.1 (has old came) refl all.2 found)
+
+-- the hash is contained once it came, and stays
+pub growing_found_law : (S : Type 0) → GrowingFoundLaw S
+growing_found_law S old new [] later hash all =
+    growing_kept_law S all.0 new later hash all.3
+    (found-takes old all.0 hash all.1 (has old hash) refl all.2)
+growing_found_law S old new (came ∷ earlier) later hash all =
+    growing_found_law S all.0 new earlier later hash all.3
+
+-- the lower part of a sum of rates is above zero
+sum-above : (rate : Rate) (m : ℕ) → 0 < (sum_of_rates rate m).1
+sum-above rate zero = omega arith
+sum-above rate (suc m) =
+    mul-pos (sum-above rate m) (some_room_at (den_of rate) (m + 1) rate.den_above)
+
+-- a sum that lacks one p-th part lacks half of it after the next rate, in whole numbers
+sum-step : (s t a b p q d : ℕ) → q ≡ p * 2 → d ≡ b * q → s * (b * p) + a * t ≡ a * p * t
+    → (s * d + a * t) * (b * q) + a * (t * d) ≡ a * q * (t * d)
+sum-step s t a b p q d is_q is_d before =
+    let twice : s * (b * (p * 2)) + a * t + a * t ≡ a * (p * 2) * t = omega (arith, before) in
+    let all = ap (λ v. v * (b * (p * 2))) twice in
+    subst (λ d. (s * d + a * t) * (b * q) + a * (t * d) ≡ a * q * (t * d)) (sym is_d)
+    (subst (λ q. (s * (b * q) + a * t) * (b * q) + a * (t * (b * q)) ≡ a * q * (t * (b * q)))
+    (sym is_q) (omega (arith, all)))
+
+-- the first m rates sum to the rate less its 2^m-th part
+sum-is : (rate : Rate) (m : ℕ)
+    → (sum_of_rates rate m).0 * (den_of rate * 2 ^ m) + num_of rate * (sum_of_rates rate m).1
+    ≡ num_of rate * 2 ^ m * (sum_of_rates rate m).1
+sum-is rate zero = omega arith
+sum-is rate (suc m) =
+    let sum = sum_of_rates rate m in
+    sum-step sum.0 sum.1 (num_of rate) (den_of rate) (2 ^ m) (2 ^ suc m) (den_at rate m)
+    (pow-suc 2 m) (ap (λ n. den_of rate * 2 ^ n) (add-one m)) (sum-is rate m)
+
+-- what is left is above zero
+pub rates_below_law : RatesBelowLaw
+rates_below_law rate m =
+    let sum = sum_of_rates rate m in
+    let some : 0 < num_of rate * sum.1 = mul-pos rate.num_above (sum-above rate m) in
+    lt_of_mul-lt-mul_right (2 ^ m) (omega (arith, some, sum-is rate m))

@@ -1,0 +1,15 @@
+mod DifferentLemmas
+mod GrowingFacts
+mod GrowingInsertFacts
+mod GrowingKeptLemmas
+mod GrowingLawLemmas
+mod GrowingLemmas
+mod GrowingRateFacts
+mod GrowingRateLemmas
+mod GrowingRefusalFacts
+mod GrowingRefusalLemmas
+mod GrowingTakesLemmas
+mod RecentLemmas
+mod RotatingFacts
+mod RotatingLemmas
+mod RotatingRuleFacts

@@ -1,0 +1,113 @@
+-- The rule that a filter that rotates keeps, and the rates of its two filters.
+use Rattle.std.proofs.Common.{◌≡◌, ℕ, ◌+◌, ◌^◌, ◌<◌, ◌≤◌, Bool, true, false, [], ◌∷◌, nat_eq, if◌then◌else◌, refl, sym, ◌∙◌, ap, subst, arith, lit<}
+use Rattle.std.proofs.lemmas.List.Elements.{All-replicate}
+use Rattle.std.specs.Cmp.{unsigned_Decides}
+use Rattle.bloom_parts.specs.declared.math.bracket.Bracket.{Bracket}
+use Rattle.bloom_parts.specs.Brackets.{low_of, high_of, Holds}
+use Rattle.bloom_parts.specs.Content.{content, AreWords, EqualWordsLaw}
+use Rattle.bloom_parts.specs.FalsePositives.{BoundsEither}
+use Rattle.bloom_parts.proofs.PublishedLemmas.{content-zeros}
+use Rattle.bloom_plain.specs.Builders.{words_for}
+use Rattle.bloom_plain.specs.Filter.{Filter, Inserts, Clears}
+use Rattle.bloom_growing.specs.Growing.{Plan, IsNumber, Took}
+use Rattle.bloom_growing.specs.GrowingRates.{Part, BoundsAny}
+use Rattle.bloom_growing.specs.Rotating.{Rotating, older_taken, IsRotating}
+use Rattle.bloom_growing.proofs.GrowingLemmas.{took-none, took-next}
+use Rattle.bloom_growing.proofs.GrowingRateLemmas.{bounds-none, bounds-push}
+
+-- a filter that was cleared is the one that was made, as words have 64 bits
+cleared-made : {S : Type 0} (plan : Plan S) (count : ℕ) (old new : Filter S) → EqualWordsLaw
+    → AreWords new.words → (took : Took plan [] count old) → Clears old new → new ≡ took.made
+cleared-made plan count old new law fit took clears =
+    let made = took.made in
+    let is = took.is_made.is_made in
+    let fit' : AreWords made.words =
+    subst (λ f. AreWords f.words) (sym is.2)
+    (All-replicate (λ w. w < 2 ^ 64) (words_for is.0) 0 (lit< tt)) in
+    let words : new.words ≡ made.words =
+    (law new.words made.words fit fit' (sym (took.did.shape.words ∙ clears.shape.words))).1
+    (λ p. clears.bits p ∙ sym (ap (λ f. content f.words p) is.2
+    ∙ content-zeros (words_for is.0) p)) in
+    let hashes : new.hashes ≡ made.hashes =
+    sym (took.did.shape.hashes ∙ clears.shape.hashes) in
+    let hasher : new.hasher ≡ made.hasher = clears.hasher ∙ took.did.hasher in
+    λ i. record { words = words i; hashes = hashes i; hasher = hasher i }
+
+-- so it took no hash
+took-cleared : {S : Type 0} (plan : Plan S) (count : ℕ) (old new : Filter S) → EqualWordsLaw
+    → AreWords new.words → Took plan [] count old → Clears old new → Took plan [] 0 new
+took-cleared plan count old new law fit took clears =
+    subst (Took plan [] 0) (sym (cleared-made plan count old new law fit took clears))
+    (took-none plan [] took.made took.is_made)
+
+-- after a turn the older filter took all that it is for
+all-taken : (turns room : ℕ) → 1 ≤ turns → (if nat_eq turns 0 then 0 else room) ≡ room
+all-taken turns room some = by (nat_eq turns 0) refl
+  where
+    by : (b : Bool) → nat_eq turns 0 ≡ b → (if nat_eq turns 0 then 0 else room) ≡ room
+    by true is = absurd (omega (arith, some, (unsigned_Decides turns 0).0 is))
+    by false is = ap (λ b. if b then 0 else room) is
+
+-- the filters as they were made keep the rule
+pub rotating-none : {S : Type 0} (r : Rotating S) → 1 ≤ r.plan.room → IsNumber r.plan 0 r.older
+    → IsNumber r.plan 0 r.newer → r.taken ≡ 0 → r.turns ≡ 0 → IsRotating r
+rotating-none r some older newer taken turns = record {
+  has_room = omega (arith, some, taken);
+  older =
+      subst (λ n. Took r.plan [] (if nat_eq n 0 then 0 else r.plan.room) r.older) (sym turns)
+      (took-none r.plan [] r.older older);
+  newer = subst (λ n. Took r.plan [] n r.newer) (sym taken) (took-none r.plan [] r.newer newer);
+}
+
+module _ {S : Type 0} (old : Rotating S) (is : IsRotating old) (hash : ℕ) (filled : Filter S)
+    (did : Inserts old.newer hash filled false) where
+  one-more : Took old.plan [] (old.taken + 1) filled
+  one-more = took-next old.plan [] old.taken old.newer filled hash is.newer refl did
+
+  -- the newer filter took one more hash
+  pub rotating-filled : (taken : ℕ) → taken ≡ old.taken + 1 → old.taken + 1 < old.plan.room
+      → IsRotating (record {
+        plan = old.plan;
+        older = old.older;
+        newer = filled;
+        taken = taken;
+        turns = old.turns;
+      })
+  rotating-filled taken next spare = record {
+    has_room = omega (arith, next, spare);
+    older = is.older;
+    newer = subst (λ n. Took old.plan [] n filled) (sym next) one-more;
+  }
+
+  -- it took the last one, and turned over
+  pub rotating-turned : (cleared : Filter S) (turns : ℕ) → EqualWordsLaw
+      → AreWords cleared.words → Clears old.older cleared → 1 ≤ turns
+      → old.plan.room ≤ old.taken + 1 → IsRotating (record {
+        plan = old.plan;
+        older = filled;
+        newer = cleared;
+        taken = 0;
+        turns = turns;
+      })
+  rotating-turned cleared turns law fit clears some full =
+      let all : old.taken + 1 ≡ (if nat_eq turns 0 then 0 else old.plan.room) =
+      omega (arith, is.has_room, full, all-taken turns old.plan.room some) in
+      record {
+        has_room = omega (arith, is.has_room);
+        older = subst (λ n. Took old.plan [] n filled) all one-more;
+        newer =
+            took-cleared old.plan (older_taken old) old.older cleared law fit is.older clears;
+      }
+
+-- the rates of two filters, one after the other, from nothing on
+pub bounds-two : (first second : Part) (none one other rate next : Bracket) → 0 < first.all
+    → 0 < second.all → low_of none ≡ 0 → high_of none ≡ 0
+    → Holds one first.found first.all → low_of one ≡ first.low → high_of one ≡ first.high
+    → Holds other second.found second.all → low_of other ≡ second.low
+    → high_of other ≡ second.high → BoundsEither none one rate → BoundsEither rate other next
+    → BoundsAny (first ∷ second ∷ []) next
+bounds-two first second none one other rate next some some' low high is low_is high_is is' low_is'
+    high_is' either either' =
+    bounds-push (first ∷ []) second rate other next some'
+    (bounds-push [] first none one rate some (bounds-none none low high) is low_is high_is either)
+    is' low_is' high_is' either'

@@ -1,0 +1,18 @@
+-- The rule that `with_hasher` begins with.
+use Rattle.std.proofs.Common.{◌∙◌, sym, arith}
+use Rattle.bloom_growing.specs.Growing.{plan_of}
+use Rattle.bloom_growing.proofs.GrowingKeptLemmas.{is_number, kept-begun}
+use Rattle.bloom_growing.proofs.GrowingLemmas.{den_at-first}
+use Rattle.bloom_growing.proofs.growing.GrowingFilter.with_hasher.Goals as goal
+
+-- the first filter keeps it
+pub rule-kept : goal.invariant_of-result
+rule-kept c =
+    let half = c.in_ok-newest_rate.ensures in
+    let den = half.den ∙ sym (den_at-first c.args.rate) in
+    let plan = plan_of c.args.rate c.max-room.result c.args.hasher in
+    kept-begun plan c.new.result.items c.in_ok-newest.newest c.in_ok-newest_rate.newest_rate
+    (omega (arith, c.max-room.ensures)) c.requires c.new.ensures.items
+    (is_number plan 0 c.in_ok-newest_rate.newest_rate c.max-room.result c.in_ok-newest.newest
+    half.num den (omega arith) c.in_ok-newest.ensures.made)
+    half.num den

@@ -1,0 +1,36 @@
+-- Laws of filters that grow, over what the contracts of the calls state. A hash may be any number.
+use Rattle.std.specs.Prelude.{◌≡◌, ℕ, zero, suc, ◌+◌, ◌*◌, ◌<◌, Bool, true, List, [], ◌∷◌, ◌++◌}
+use Rattle.bloom_parts.specs.Rates.{num_of, den_of}
+use Rattle.bloom_parts.specs.declared.math.rate.Rate.{Rate}
+use Rattle.bloom_growing.specs.Growing.{Growing, has, den_at}
+use Rattle.bloom_growing.specs.GrowingInserts.{Takes}
+
+-- from old to new the hashes of a list came, in order
+abbrev pub TakesAll : {S : Type 0} → Growing S → List ℕ → Growing S → Type 0
+TakesAll {S} old [] new = new ≡ old
+TakesAll {S} old (hash ∷ later) new =
+    (next : Growing S) × (reply : Bool) × Takes old hash next reply × TakesAll next later new
+
+-- a hash that is contained stays contained, whatever comes
+abbrev pub GrowingKeptLaw : (S : Type 0) → Type 0
+GrowingKeptLaw S = (old new : Growing S) (hashes : List ℕ) (hash : ℕ) → TakesAll old hashes new
+    → has old hash ≡ true → has new hash ≡ true
+
+-- a hash that came is contained from then on
+abbrev pub GrowingFoundLaw : (S : Type 0) → Type 0
+GrowingFoundLaw S = (old new : Growing S) (earlier later : List ℕ) (hash : ℕ)
+    → TakesAll old (earlier ++ hash ∷ later) new → has new hash ≡ true
+
+-- the sum of the rates that the first m filters are sized for, as a fraction: its upper and its
+-- lower part
+abbrev pub sum_of_rates : Rate → ℕ → ℕ × ℕ
+sum_of_rates rate zero = (0, 1)
+sum_of_rates rate (suc m) =
+    let sum = sum_of_rates rate m in
+    (sum.0 * den_at rate m + num_of rate * sum.1, sum.1 * den_at rate m)
+
+-- the rates that the filters are sized for, however many they are, sum to less than the rate asked
+-- for
+abbrev pub RatesBelowLaw : Type 0
+RatesBelowLaw = (rate : Rate) (m : ℕ)
+    → (sum_of_rates rate m).0 * den_of rate < num_of rate * (sum_of_rates rate m).1

@@ -1,0 +1,5 @@
+pub mod Growing
+pub mod GrowingInserts
+pub mod GrowingLaws
+pub mod GrowingRates
+pub mod Rotating

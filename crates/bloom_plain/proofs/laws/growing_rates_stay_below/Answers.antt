@@ -1,5 +1,0 @@
-use Rattle.bloom_plain.proofs.GrowingLawLemmas.{rates_below_law}
-use Rattle.bloom_plain.proofs.laws.growing_rates_stay_below.Goals as goal
-
-pub returns : goal.returns
-returns c = rates_below_law

@@ -1,5 +1,0 @@
-use Rattle.bloom_plain.proofs.RecentLemmas.{recent_found_law}
-use Rattle.bloom_plain.proofs.laws.rotating_recent_stays_found.Goals as goal
-
-pub returns : goal.returns
-returns g c = recent_found_law _

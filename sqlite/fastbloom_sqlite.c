@@ -1,0 +1,600 @@
+/* Bloom filters in SQLite: the module `bloom`, whose tables are blocked filters in the database,
+ * and functions on filters in BLOBs, which have the form of the library's files.
+ *
+ * A text or a BLOB is hashed by its bytes, a text as UTF-8 in every database. An integer is hashed
+ * by its decimal text, and so is a real that is an integer: 5, 5.0 and '5' are one item, as lines
+ * are to the programs. Another real is hashed by its eight bytes. NULL is never in a filter.
+ *
+ * A table NAME has a shadow table NAME_data: row 0 has the head of the library's file, and each row
+ * from 1 on has 63 lines, which fit a page of 4096 bytes. The rows in order are the file, but for
+ * its seal. All are written when the table is made, so a row that is missing is damage, and never
+ * means that an item is absent. Memory keeps only the head. So transactions, savepoints, crashes
+ * and copies are SQLite's. The library says which line a hash has, and which bits there. */
+#include <sqlite3ext.h>
+SQLITE_EXTENSION_INIT1
+#include "fastbloom.h"
+
+#include <stdarg.h>
+#include <stdio.h>
+#include <string.h>
+#include <sys/random.h>
+
+/* Bytes of a file's head, of a line and of a key; words and bits of a line; lines in a row, and in
+ * a table at most: 64 GiB. */
+enum { HEAD = 64, LINE = 64, KEY = 16, WORDS = 8, BITS = 512, LINES = 63, MOST = 1 << 30 };
+enum { COLUMN_ITEM, COLUMN_INFO, COLUMN_FILE };
+
+/* The hash of an item. It returns 1, or 0 for NULL, or -1 where there is no memory. */
+static int hash_of(sqlite3_value *item, const uint8_t key[KEY], uint64_t *hash) {
+    int type = sqlite3_value_type(item);
+    char number[24];
+    const void *bytes = number;
+    size_t len;
+    if (type == SQLITE_NULL) return 0;
+    if (type == SQLITE_TEXT || type == SQLITE_BLOB) {
+        bytes = type == SQLITE_TEXT ? sqlite3_value_text(item) : sqlite3_value_blob(item);
+        len = (size_t)sqlite3_value_bytes(item);
+        if (bytes == NULL && (type == SQLITE_TEXT || len > 0)) return -1; /* (x'' is NULL, too) */
+    } else {
+        sqlite3_int64 integer = sqlite3_value_int64(item);
+        double real = sqlite3_value_double(item);
+        bool is_integer = type == SQLITE_INTEGER || ((double)integer == real && real < 0x1p63);
+        len = is_integer ? strlen(sqlite3_snprintf(sizeof number, number, "%lld", integer))
+                         : sizeof real;
+        if (!is_integer) memcpy(number, &real, len);
+    }
+    *hash = fastbloom_hash(key, bytes, len);
+    return 1;
+}
+
+/* The size and key of a filter, and its file where that is in memory. */
+typedef struct filter {
+    size_t num_words;
+    uint32_t num_hashes;
+    uint8_t key[KEY], *file;
+} filter;
+
+/* Reads digits, and returns where they end, or NULL where there are none or too many. */
+static const char *read_number(const char *text, uint64_t *number) {
+    const char *end = text;
+    for (*number = 0; *end >= '0' && *end <= '9'; end++) {
+        if (*number > (UINT64_MAX - 9) / 10) return NULL;
+        *number = *number * 10 + (uint64_t)(*end - '0');
+    }
+    return end == text ? NULL : end;
+}
+
+/* The size for so many items at a rate like 1/1000. It returns NULL, or what is wrong. */
+static const char *plan(uint64_t items, const char *rate, filter *f) {
+    uint64_t num, den = 0;
+    const char *end = rate == NULL ? NULL : read_number(rate, &num);
+    end = end == NULL || *end != '/' ? NULL : read_number(end + 1, &den);
+    if (items == 0) return "the number of items is a whole number from 1 on";
+    if (end == NULL || *end != 0 || num == 0 || num >= den)
+        return "the rate is a text like '1/1000'";
+    uint8_t code = fastbloom_blocked_plan(num, den, items, &f->num_words, &f->num_hashes);
+    if (code == FASTBLOOM_OK && f->num_words / WORDS > MOST) return "more than 64 GiB";
+    return code == FASTBLOOM_OK ? NULL : fastbloom_strerror(code);
+}
+
+/* Reads a head, and returns FASTBLOOM_OK, or the reason why it is refused. */
+static uint8_t read_head(const uint8_t *head, filter *f, uint64_t *seal) {
+    uint8_t code = fastbloom_blocked_head_read(head, &f->num_words, &f->num_hashes, f->key, seal);
+    if (code != FASTBLOOM_OK) return code;
+    if (f->num_words / WORDS > MOST) return FASTBLOOM_TOO_MANY_WORDS;
+    return f->num_hashes > FASTBLOOM_USUAL_HASHES ? FASTBLOOM_TOO_MANY_HASHES : FASTBLOOM_OK;
+}
+
+/* Whether a file has no seal, or the right one. (Its words may lie anywhere.) */
+static bool is_sealed(const uint8_t *file, size_t len, uint64_t seal) {
+    static const uint8_t zeros[KEY];
+    fastbloom_hasher hasher;
+    fastbloom_hasher_init(&hasher, zeros);
+    fastbloom_hasher_update(&hasher, file, 40);
+    fastbloom_hasher_update(&hasher, file + 48, 8);
+    fastbloom_hasher_update(&hasher, file + HEAD, len - HEAD);
+    return seal == 0 || seal == fastbloom_hasher_finish(&hasher);
+}
+
+/* Reads the file in a value, and returns FASTBLOOM_OK, or the reason why it is refused. */
+static uint8_t read_file(sqlite3_value *value, bool is_checked, filter *f) {
+    bool is_blob = sqlite3_value_type(value) == SQLITE_BLOB;
+    f->file = is_blob ? (void *)sqlite3_value_blob(value) : NULL;
+    size_t len = is_blob ? (size_t)sqlite3_value_bytes(value) : 0;
+    uint64_t seal;
+    if (f->file == NULL && len > 0) return FASTBLOOM_MEMORY;
+    uint8_t code = len < HEAD ? FASTBLOOM_NOT_A_FILTER : read_head(f->file, f, &seal);
+    if (code != FASTBLOOM_OK) return code;
+    if (f->num_words > (len - HEAD) / 8) return FASTBLOOM_CUT;
+    if (f->num_words * 8 < len - HEAD) return FASTBLOOM_TOO_LONG;
+    return is_checked || is_sealed(f->file, len, seal) ? FASTBLOOM_OK : FASTBLOOM_SEAL;
+}
+
+/* Returns the file of a filter, sealed, and frees it. */
+static void result_file(sqlite3_context *context, const filter *f) {
+    const uint64_t *words = (const void *)(f->file + HEAD);
+    uint64_t seal = fastbloom_blocked_seal(words, f->num_words, f->num_hashes, f->key);
+    (void)!fastbloom_blocked_head_write(f->num_words, f->num_hashes, f->key, seal, f->file);
+    sqlite3_result_blob64(context, f->file, HEAD + 8 * f->num_words, sqlite3_free);
+}
+
+/* Fails for a reason, or for want of memory where that is NULL. */
+static void fail(sqlite3_context *context, const char *why) {
+    char *text = why == NULL ? NULL : sqlite3_mprintf("bloom: %s", why);
+    if (text != NULL) sqlite3_result_error(context, text, -1);
+    if (text == NULL) sqlite3_result_error_nomem(context);
+    sqlite3_free(text);
+}
+
+/* Begins the filter that the first row of an aggregate asks for, or fails. */
+static void begin_file(sqlite3_context *context, int argc, sqlite3_value **argv, filter *f) {
+    bool is_number = sqlite3_value_numeric_type(argv[1]) == SQLITE_INTEGER;
+    sqlite3_int64 items = is_number ? sqlite3_value_int64(argv[1]) : 0;
+    const void *rate = sqlite3_value_text(argv[2]);
+    const void *key = argc == 4 ? sqlite3_value_blob(argv[3]) : f->key;
+    const char *why = plan(items < 0 ? 0 : (uint64_t)items, rate, f);
+    if (argc == 4 && sqlite3_value_bytes(argv[3]) != KEY) why = "the key is a BLOB of 16 bytes";
+    f->file = why != NULL || key == NULL ? NULL : sqlite3_malloc64(HEAD + 8 * f->num_words);
+    if (f->file == NULL) fail(context, why);
+    if (f->file == NULL) return;
+    memmove(f->key, key, KEY);
+    memset(f->file, 0, HEAD + 8 * f->num_words);
+}
+
+/* bloom(item, items, rate [, key]): the file with all items. */
+static void bloom_step(sqlite3_context *context, int argc, sqlite3_value **argv) {
+    filter *f = sqlite3_aggregate_context(context, sizeof *f);
+    uint64_t hash;
+    if (f != NULL && f->file == NULL) begin_file(context, argc, argv, f);
+    if (f != NULL && f->file == NULL) return;
+    int known = f == NULL ? -1 : hash_of(argv[0], f->key, &hash);
+    if (known < 0) fail(context, NULL);
+    if (known <= 0) return;
+    fastbloom_blocked_insert_hash((void *)(f->file + HEAD), f->num_words, f->num_hashes, hash);
+}
+
+static void bloom_final(sqlite3_context *context) {
+    filter *f = sqlite3_aggregate_context(context, 0);
+    if (f != NULL && f->file != NULL) result_file(context, f);
+}
+
+/* Whether the file in a value contains an item. */
+static void look_up(sqlite3_context *context, sqlite3_value *value, bool is_checked,
+                    sqlite3_value *item) {
+    uint64_t hash, line[WORDS];
+    filter f;
+    uint8_t code = read_file(value, is_checked, &f);
+    int known = code == FASTBLOOM_OK ? hash_of(item, f.key, &hash) : 0;
+    bool is_full = known < 0 || code == FASTBLOOM_MEMORY;
+    if (is_full || code != FASTBLOOM_OK) fail(context, is_full ? NULL : fastbloom_strerror(code));
+    if (is_full || code != FASTBLOOM_OK) return;
+    if (known > 0) {
+        memcpy(line, f.file + HEAD + LINE * fastbloom_blocked_line(f.num_words, hash), LINE);
+        known = fastbloom_blocked_contains_hash(line, WORDS, f.num_hashes, hash);
+    }
+    sqlite3_result_int(context, known);
+}
+
+/* bloom_contains(file, item). The seal is checked once where the file is the same for all rows, as
+ * a bound parameter is. */
+static void contains(sqlite3_context *context, int argc, sqlite3_value **argv) {
+    static char checked;
+    if (argc != 2 || sqlite3_value_type(argv[0]) == SQLITE_NULL) return;
+    look_up(context, argv[0], sqlite3_get_auxdata(context, 0) != NULL, argv[1]);
+    sqlite3_set_auxdata(context, 0, &checked, NULL);
+}
+
+static void free_value(void *value) { sqlite3_value_free(value); }
+
+/* bloom_in(table, item), with a name like 'seen' or 'main.seen'. Where it is the same for all rows,
+ * the filter is read once, as it is at the first of them. */
+static void in(sqlite3_context *context, int argc, sqlite3_value **argv) {
+    sqlite3 *db = sqlite3_context_db_handle(context);
+    const char *name = (const void *)sqlite3_value_text(argv[0]),
+               *dot = strchr(name ? name : "", '.');
+    sqlite3_value *file = sqlite3_get_auxdata(context, 0);
+    sqlite3_stmt *read = NULL;
+    if (argc == 2 && file != NULL) look_up(context, file, true, argv[1]);
+    if (file != NULL || name == NULL) return;
+    char *sql = sqlite3_mprintf("SELECT file FROM \"%.*w%s%w\"", dot ? (int)(dot - name) : 0, name,
+                                dot ? "\".\"" : "", dot ? dot + 1 : name);
+    int code = sql == NULL ? SQLITE_NOMEM : sqlite3_prepare_v2(db, sql, -1, &read, NULL);
+    sqlite3_free(sql);
+    if (code == SQLITE_OK) code = sqlite3_step(read);
+    if (code == SQLITE_ROW) file = sqlite3_value_dup(sqlite3_column_value(read, 0));
+    bool is_full = code == SQLITE_NOMEM || (code == SQLITE_ROW && file == NULL);
+    if (file != NULL) look_up(context, file, false, argv[1]);
+    if (file != NULL) sqlite3_set_auxdata(context, 0, file, free_value);
+    if (file == NULL) fail(context, is_full ? NULL : sqlite3_errmsg(db));
+    if (file == NULL && !is_full && code != SQLITE_DONE) sqlite3_result_error_code(context, code);
+    sqlite3_finalize(read);
+}
+
+typedef struct table {
+    sqlite3_vtab base;
+    sqlite3 *db;
+    char *schema, *shadow, *quoted; /* the names of schema and shadow table, and both in SQL */
+    sqlite3_stmt *read;
+    uint64_t items, row[LINES * WORDS], other[LINES * WORDS];
+    filter f; /* it has no words until the head was read */
+} table;
+
+/* It looks an item up, or has a row about the filter, or refuses. */
+enum { LOOK_UP, ABOUT, LIST };
+
+typedef struct cursor {
+    sqlite3_vtab_cursor base;
+    bool has_row;
+    sqlite3_value *item;
+} cursor;
+
+static int refuse(table *t, const char *why) {
+    sqlite3_free(t->base.zErrMsg);
+    t->base.zErrMsg = sqlite3_mprintf("bloom: %s", why);
+    return SQLITE_ERROR;
+}
+
+static int refuse_row(table *t, sqlite3_int64 row) {
+    sqlite3_free(t->base.zErrMsg);
+    t->base.zErrMsg =
+        sqlite3_mprintf("bloom: row %lld of %s is damaged: make the table anew", row, t->shadow);
+    return SQLITE_CORRUPT_VTAB;
+}
+
+/* Runs a statement that a format makes. */
+static int run(sqlite3 *db, const char *format, ...) {
+    va_list arguments;
+    va_start(arguments, format);
+    char *sql = sqlite3_vmprintf(format, arguments);
+    va_end(arguments);
+    int code = sql == NULL ? SQLITE_NOMEM : sqlite3_exec(db, sql, NULL, NULL, NULL);
+    sqlite3_free(sql);
+    return code;
+}
+
+/* The bytes of a row: 0 behind the last one. */
+static size_t bytes_of(const table *t, sqlite3_int64 row) {
+    size_t lines = t->f.num_words / WORDS, before = ((size_t)row - 1) * LINES;
+    if (row == 0) return HEAD;
+    return before >= lines ? 0 : LINE * (lines - before < LINES ? lines - before : LINES);
+}
+
+/* Copies a part of a row, or all of it. */
+static int read_row(table *t, sqlite3_int64 row, size_t from, size_t len, void *to) {
+    if (t->read == NULL) {
+        char *sql = sqlite3_mprintf("SELECT bits FROM %s WHERE page = ?", t->quoted);
+        int made = sql == NULL ? SQLITE_NOMEM : sqlite3_prepare_v2(t->db, sql, -1, &t->read, NULL);
+        sqlite3_free(sql);
+        if (made != SQLITE_OK) return made == SQLITE_ERROR ? refuse_row(t, row) : made;
+    }
+    sqlite3_bind_int64(t->read, 1, row);
+    const uint8_t *bits =
+        sqlite3_step(t->read) == SQLITE_ROW ? sqlite3_column_blob(t->read, 0) : NULL;
+    bool is_right = bits != NULL && (size_t)sqlite3_column_bytes(t->read, 0) == bytes_of(t, row);
+    if (is_right) memcpy(to, bits + from, len);
+    int code = sqlite3_reset(t->read);
+    return code != SQLITE_OK || is_right ? code : refuse_row(t, row);
+}
+
+/* Reads the head, once. */
+static int need_head(table *t) {
+    uint8_t head[HEAD];
+    uint64_t seal;
+    if (t->f.num_words > 0) return SQLITE_OK;
+    int code = read_row(t, 0, 0, HEAD, head);
+    if (code != SQLITE_OK || read_head(head, &t->f, &seal) == FASTBLOOM_OK) return code;
+    t->f.num_words = 0;
+    return refuse_row(t, 0);
+}
+
+/* The row with the line of a hash, and where the line begins there. */
+static sqlite3_int64 row_of(const table *t, uint64_t hash, size_t *from) {
+    size_t line = fastbloom_blocked_line(t->f.num_words, hash);
+    *from = LINE * (line % LINES);
+    return (sqlite3_int64)(line / LINES + 1);
+}
+
+static int disconnect(sqlite3_vtab *base) {
+    table *t = (table *)base;
+    sqlite3_finalize(t->read);
+    sqlite3_free(t->schema);
+    sqlite3_free(t->shadow);
+    sqlite3_free(t->quoted);
+    sqlite3_free(t->base.zErrMsg);
+    sqlite3_free(t);
+    return SQLITE_OK;
+}
+
+static int destroy(sqlite3_vtab *base) {
+    table *t = (table *)base;
+    int code = run(t->db, "DROP TABLE IF EXISTS %s", t->quoted);
+    return code == SQLITE_OK ? disconnect(base) : code;
+}
+
+/* Reads 32 hexadecimal digits. */
+static bool read_key(const char *text, uint8_t key[KEY]) {
+    size_t digits = strspn(text, "0123456789abcdefABCDEF");
+    for (int i = 0; i < KEY && digits == 2 * KEY; i++) sscanf(text + 2 * i, "%2hhx", key + i);
+    return digits == 2 * KEY && text[digits] == 0;
+}
+
+/* Reads the arguments of CREATE VIRTUAL TABLE. It returns NULL, or what is wrong. */
+static const char *read_arguments(int argc, const char *const *argv, uint64_t *items, filter *f) {
+    static const char usage[] = "write bloom(items=N, rate='1/N' [, key='HEX' | key=random])";
+    char rate[64] = "", given[64];
+    for (int i = 3; i < argc; i++) {
+        size_t len = 0;
+        for (const char *from = argv[i]; *from != 0 && len < sizeof given; from++)
+            if (strchr(" \t\r\n'\"", *from) == NULL) given[len++] = *from;
+        if (len == sizeof given) return usage;
+        given[len] = 0;
+        if (sqlite3_strnicmp(given, "items=", 6) == 0) {
+            if (read_number(given + 6, items) != given + len) *items = 0;
+        } else if (sqlite3_strnicmp(given, "rate=", 5) == 0) {
+            strcpy(rate, given + 5);
+        } else if (sqlite3_stricmp(given, "key=random") == 0) {
+            if (getrandom(f->key, KEY, 0) != KEY) return "the system has no random bytes";
+        } else if (sqlite3_strnicmp(given, "key=", 4) != 0 || !read_key(given + 4, f->key)) {
+            return usage;
+        }
+    }
+    return plan(*items, rate, f);
+}
+
+/* Opens a row to write there, or moves a handle to it. None stays open behind an insert, where it
+ * would be in the way of COMMIT. */
+static int open_row(table *t, sqlite3_int64 row, sqlite3_blob **bits) {
+    int code = *bits != NULL ? sqlite3_blob_reopen(*bits, row)
+                             : sqlite3_blob_open(t->db, t->schema, t->shadow, "bits", row, 1, bits);
+    bool is_wrong = code == SQLITE_OK && (size_t)sqlite3_blob_bytes(*bits) != bytes_of(t, row);
+    return is_wrong || code == SQLITE_ERROR ? refuse_row(t, row) : code;
+}
+
+static int close_row(sqlite3_blob *bits, int code) {
+    int closed = sqlite3_blob_close(bits);
+    return code != SQLITE_OK ? code : closed;
+}
+
+/* Writes the empty filter, row by row. */
+static int write_empty(table *t) {
+    static const char insert[] = "INSERT INTO %s VALUES(%lld, zeroblob(%d))";
+    uint8_t head[HEAD];
+    sqlite3_blob *bits = NULL;
+    int len, code = run(t->db, "CREATE TABLE %s(page INTEGER PRIMARY KEY, bits BLOB)", t->quoted);
+    for (sqlite3_int64 row = 0; code == SQLITE_OK && (len = (int)bytes_of(t, row)) > 0; row++)
+        code = run(t->db, insert, t->quoted, row, len);
+    (void)!fastbloom_blocked_head_write(t->f.num_words, t->f.num_hashes, t->f.key, 0, head);
+    if (code == SQLITE_OK) code = open_row(t, 0, &bits);
+    if (code == SQLITE_OK) code = sqlite3_blob_write(bits, head, HEAD, 0);
+    return close_row(bits, code);
+}
+
+/* Opens a table, or makes it, and reads nothing, so that a damaged one can be dropped. */
+static int open_table(sqlite3 *db, void *is_new, int argc, const char *const *argv,
+                      sqlite3_vtab **base, char **error) {
+    table *t = sqlite3_malloc64(sizeof *t);
+    if (t == NULL) return SQLITE_NOMEM;
+    memset(t, 0, sizeof *t);
+    t->db = db;
+    t->schema = sqlite3_mprintf("%s", argv[1]);
+    t->shadow = sqlite3_mprintf("%s_data", argv[2]);
+    t->quoted = sqlite3_mprintf("\"%w\".\"%w\"", t->schema, t->shadow);
+    const char *why = read_arguments(argc, argv, &t->items, &t->f);
+    if (is_new == NULL) t->f.num_words = 0, why = NULL;
+    int code = t->schema && t->shadow && t->quoted ? SQLITE_OK : SQLITE_NOMEM;
+    if (!code) code = sqlite3_declare_vtab(db, "CREATE TABLE x(item, info HIDDEN, file HIDDEN)");
+    if (!code && why != NULL) code = SQLITE_ERROR;
+    if (!code && is_new != NULL && (code = write_empty(t))) why = sqlite3_errmsg(db);
+    sqlite3_vtab_config(db, SQLITE_VTAB_CONSTRAINT_SUPPORT, 1);
+    sqlite3_vtab_config(db, SQLITE_VTAB_INNOCUOUS);
+    if (code) *error = sqlite3_mprintf("bloom: %s", why != NULL ? why : sqlite3_errstr(code));
+    if (code)
+        disconnect(&t->base);
+    else
+        *base = &t->base;
+    return code;
+}
+
+static int create_table(sqlite3 *db, void *aux, int argc, const char *const *argv,
+                        sqlite3_vtab **base, char **error) {
+    return open_table(db, &aux, argc, argv, base, error);
+}
+
+/* A look-up of an item, by = or IN; or a row about the filter, where its items aren't asked for. */
+static int best_index(sqlite3_vtab *base, sqlite3_index_info *info) {
+    int code = SQLITE_OK;
+    (void)base;
+    info->idxNum = info->colUsed != 0 && (info->colUsed & 1 << COLUMN_ITEM) == 0 ? ABOUT : LIST;
+    info->estimatedCost = 1e12;
+    for (int i = 0; i < info->nConstraint && info->idxNum != LOOK_UP; i++) {
+        const struct sqlite3_index_constraint *c = &info->aConstraint[i];
+        if (c->iColumn != COLUMN_ITEM) continue;
+        if (c->op != SQLITE_INDEX_CONSTRAINT_EQ && c->op != SQLITE_INDEX_CONSTRAINT_IS) continue;
+        if (sqlite3_stricmp(sqlite3_vtab_collation(info, i), "BINARY") != 0) continue;
+        code = c->usable ? SQLITE_OK : SQLITE_CONSTRAINT; /* (another order of the join) */
+        if (!c->usable) continue;
+        info->aConstraintUsage[i].argvIndex = info->aConstraintUsage[i].omit = 1;
+        info->idxNum = LOOK_UP;
+        info->idxFlags = SQLITE_INDEX_SCAN_UNIQUE;
+        info->estimatedCost = 2;
+        info->estimatedRows = 1;
+    }
+    return code;
+}
+
+static int open_cursor(sqlite3_vtab *base, sqlite3_vtab_cursor **made) {
+    cursor *c = sqlite3_malloc64(sizeof *c);
+    (void)base;
+    if (c != NULL) *made = memset(c, 0, sizeof *c);
+    return c != NULL ? SQLITE_OK : SQLITE_NOMEM;
+}
+
+static int close_cursor(sqlite3_vtab_cursor *base) {
+    sqlite3_value_free(((cursor *)base)->item);
+    sqlite3_free(base);
+    return SQLITE_OK;
+}
+
+static int begin(sqlite3_vtab_cursor *base, int what, const char *text, int argc,
+                 sqlite3_value **argv) {
+    cursor *c = (cursor *)base;
+    table *t = (table *)base->pVtab;
+    uint64_t hash, line[WORDS];
+    size_t from;
+    (void)text, (void)argc;
+    sqlite3_value_free(c->item);
+    c->item = NULL, c->has_row = what == ABOUT;
+    if (what == LIST) return refuse(t, "a filter answers only WHERE item = .. COLLATE BINARY");
+    int code = need_head(t);
+    if (code != SQLITE_OK || what == ABOUT) return code;
+    int known = hash_of(argv[0], t->f.key, &hash);
+    if (known <= 0) return known == 0 ? SQLITE_OK : SQLITE_NOMEM;
+    sqlite3_int64 row = row_of(t, hash, &from);
+    code = read_row(t, row, from, LINE, line);
+    if (code != SQLITE_OK) return code;
+    c->has_row = fastbloom_blocked_contains_hash(line, WORDS, t->f.num_hashes, hash);
+    return c->has_row && (c->item = sqlite3_value_dup(argv[0])) == NULL ? SQLITE_NOMEM : SQLITE_OK;
+}
+
+static int next(sqlite3_vtab_cursor *base) {
+    ((cursor *)base)->has_row = false;
+    return SQLITE_OK;
+}
+
+static int at_end(sqlite3_vtab_cursor *base) { return !((cursor *)base)->has_row; }
+
+/* Tells about how many items there are, and the rate of false positives now. Each line is a Bloom
+ * filter of 512 bits, of which an item draws some. For a line with so many set bits the library
+ * tells how many were drawn, and how often it errs. A full line counts as one that lacks a bit. */
+static void result_info(sqlite3_context *context, uint64_t items, const filter *f) {
+    uint64_t lines_with[BITS + 1] = {0}, line[WORDS] = {0}, from, to;
+    const uint64_t *words = (const void *)(f->file + HEAD);
+    double drawn = 0, rate = 0, lines = (double)(f->num_words / WORDS);
+    size_t least, most;
+    for (size_t at = 0; at < f->num_words; at += WORDS)
+        lines_with[fastbloom_count_ones(words + at, WORDS)]++;
+    for (int set = 0; set <= BITS; set++) {
+        double count = (double)lines_with[set];
+        if (set > 0 && set < BITS) line[set / 64] |= UINT64_C(1) << set % 64;
+        if (count == 0 || !fastbloom_estimate(line, WORDS, 1, &least, &most)) continue;
+        drawn += count * (double)(least + most) / 2;
+        if (set == BITS) line[0] |= 1;
+        if (fastbloom_rate_now(line, WORDS, f->num_hashes, &from, &to))
+            rate += count / lines * (double)to / 0x1p63;
+    }
+    static const char json[] = "{\"items\":%llu,\"estimate\":%.0f,\"rate\":%.6g}";
+    char *text = sqlite3_mprintf(json, items, drawn / f->num_hashes, rate);
+    if (text == NULL) fail(context, NULL);
+    if (text != NULL) sqlite3_result_text(context, text, -1, sqlite3_free);
+}
+
+static int column(sqlite3_vtab_cursor *base, sqlite3_context *context, int number) {
+    cursor *c = (cursor *)base;
+    table *t = (table *)base->pVtab;
+    filter f = t->f;
+    size_t bytes, at = HEAD;
+    if (number == COLUMN_ITEM && c->item != NULL) sqlite3_result_value(context, c->item);
+    if (number == COLUMN_ITEM) return SQLITE_OK;
+    f.file = sqlite3_malloc64(HEAD + 8 * f.num_words);
+    int code = f.file == NULL ? SQLITE_NOMEM : SQLITE_OK;
+    for (sqlite3_int64 row = 1; code == SQLITE_OK && (bytes = bytes_of(t, row)) > 0; row++) {
+        code = read_row(t, row, 0, bytes, f.file + at);
+        at += bytes;
+    }
+    if (code == SQLITE_OK && number == COLUMN_INFO) result_info(context, t->items, &f);
+    if (code == SQLITE_OK && number == COLUMN_FILE) result_file(context, &f);
+    if (code != SQLITE_OK || number == COLUMN_INFO) sqlite3_free(f.file);
+    return code;
+}
+
+static int row_id(sqlite3_vtab_cursor *base, sqlite3_int64 *id) {
+    (void)base, *id = 1;
+    return SQLITE_OK;
+}
+
+static int insert_hash(table *t, uint64_t hash, bool *is_new) {
+    uint64_t line[WORDS];
+    size_t from;
+    sqlite3_int64 row = row_of(t, hash, &from);
+    sqlite3_blob *bits = NULL;
+    int code = open_row(t, row, &bits);
+    if (code == SQLITE_OK) code = sqlite3_blob_read(bits, line, LINE, (int)from);
+    *is_new =
+        code == SQLITE_OK && !fastbloom_blocked_insert_hash(line, WORDS, t->f.num_hashes, hash);
+    if (*is_new) code = sqlite3_blob_write(bits, line, LINE, (int)from);
+    return close_row(bits, code);
+}
+
+/* INSERT INTO seen(file): the union with a filter of the same size and key. */
+static int insert_file(table *t, sqlite3_value *value) {
+    filter f;
+    size_t len, at = HEAD;
+    sqlite3_blob *bits = NULL;
+    uint8_t why = read_file(value, false, &f);
+    if (why == FASTBLOOM_MEMORY) return SQLITE_NOMEM;
+    if (why != FASTBLOOM_OK) return refuse(t, fastbloom_strerror(why));
+    if (f.num_words != t->f.num_words || f.num_hashes != t->f.num_hashes ||
+        memcmp(f.key, t->f.key, KEY) != 0)
+        return refuse(t, "the file is for other items, another rate or another key");
+    int code = SQLITE_OK;
+    for (sqlite3_int64 row = 1; code == SQLITE_OK && (len = bytes_of(t, row)) > 0; row++) {
+        code = open_row(t, row, &bits);
+        if (code == SQLITE_OK) code = sqlite3_blob_read(bits, t->row, (int)len, 0);
+        memcpy(t->other, f.file + at, len);
+        at += len;
+        if (code == SQLITE_OK && fastbloom_union(t->row, len / 8, t->other, len / 8))
+            code = sqlite3_blob_write(bits, t->row, (int)len, 0);
+    }
+    return close_row(bits, code);
+}
+
+/* An INSERT of an item or of a file. INSERT OR IGNORE leaves out NULL, and what is in already as
+ * far as the filter tells, so changes() tells what is new. */
+static int update(sqlite3_vtab *base, int argc, sqlite3_value **argv, sqlite3_int64 *id) {
+    table *t = (table *)base;
+    uint64_t hash;
+    bool is_new = false;
+    if (argc == 1 || sqlite3_value_type(argv[0]) != SQLITE_NULL)
+        return refuse(t, "a filter can't delete or change an item: make the table anew");
+    sqlite3_value *item = argv[2 + COLUMN_ITEM], *file = argv[2 + COLUMN_FILE];
+    bool has_file = sqlite3_value_type(file) != SQLITE_NULL;
+    if (sqlite3_value_type(argv[2 + COLUMN_INFO]) != SQLITE_NULL ||
+        (has_file && sqlite3_value_type(item) != SQLITE_NULL))
+        return refuse(t, "insert an item or a file");
+    *id = sqlite3_last_insert_rowid(t->db);
+    int code = need_head(t);
+    if (code != SQLITE_OK) return code;
+    if (has_file) return insert_file(t, file);
+    int known = hash_of(item, t->f.key, &hash);
+    if (known < 0) return SQLITE_NOMEM;
+    if (known > 0) code = insert_hash(t, hash, &is_new);
+    if (code != SQLITE_OK || is_new) return code;
+    return sqlite3_vtab_on_conflict(t->db) == SQLITE_IGNORE ? SQLITE_CONSTRAINT : SQLITE_OK;
+}
+
+/* SQLite opens the table by its new name afterwards. */
+static int rename_table(sqlite3_vtab *base, const char *name) {
+    table *t = (table *)base;
+    return run(t->db, "ALTER TABLE %s RENAME TO \"%w_data\"", t->quoted, name);
+}
+
+static int is_shadow(const char *suffix) { return sqlite3_stricmp(suffix, "data") == 0; }
+
+static sqlite3_module module = {
+    3,     create_table, open_table, best_index,   disconnect, destroy, open_cursor, close_cursor,
+    begin, next,         at_end,     column,       row_id,     update,  NULL,        NULL,
+    NULL,  NULL,         NULL,       rename_table, NULL,       NULL,    NULL,        is_shadow};
+
+__attribute__((visibility("default"))) int
+sqlite3_fastbloomsqlite_init(sqlite3 *db, char **error, const sqlite3_api_routines *api) {
+    SQLITE_EXTENSION_INIT2(api);
+    const int pure = SQLITE_UTF8 | SQLITE_DETERMINISTIC | SQLITE_INNOCUOUS;
+    const int reads = SQLITE_UTF8 | SQLITE_DIRECTONLY;
+    (void)error;
+    int code = sqlite3_create_module(db, "bloom", &module, NULL);
+    for (int n = 3; n <= 4 && !code; n++)
+        code = sqlite3_create_function(db, "bloom", n, pure, NULL, NULL, bloom_step, bloom_final);
+    if (!code)
+        code = sqlite3_create_function(db, "bloom_contains", 2, pure, NULL, contains, NULL, NULL);
+    return code ? code : sqlite3_create_function(db, "bloom_in", 2, reads, NULL, in, NULL, NULL);
+}
