@@ -1,13 +1,14 @@
 mod AnswerFacts
 mod AskingLemmas
 mod BlockedFacts
-mod BlockedLemmas
 mod BothLemmas
 mod ComparingFacts
 mod ComparingLemmas
 mod CutLemmas
 mod CuttingLemmas
+mod EmptyLemmas
 mod FilledLemmas
+mod FillerLemmas
 mod InputFacts
 mod InputLemmas
 mod InputStopFacts

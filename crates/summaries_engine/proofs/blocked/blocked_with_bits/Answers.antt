@@ -1,4 +1,4 @@
-use Rattle.summaries_engine.proofs.BlockedLemmas.{empty-zeros}
+use Rattle.summaries_engine.proofs.EmptyLemmas.{empty-zeros}
 use Rattle.summaries_engine.proofs.blocked.blocked_with_bits.Goals as goal
 
 -- the builder has zero words and the zero key
