@@ -1,16 +1,16 @@
 -- Filters of either kind that take hashes, and the summaries that come of it.
-use Rattle.std.proofs.Common.{◌≡◌, ℕ, ◌*◌, ◌/◌, ◌||◌, List, [], ◌∷◌, ◌++◌, map, refl, sym, subst, ◌∙◌, ap, append_assoc, append-nil}
+use Rattle.std.proofs.Common.{◌≡◌, ◌⊎◌, inl, inr, ℕ, ◌*◌, ◌/◌, ◌||◌, List, [], ◌∷◌, ◌++◌, map, refl, sym, subst, ◌∙◌, ap, append_assoc, append-nil}
 use Rattle.bloom_parts.specs.Keys.{HasKey, key_of}
 use Rattle.bloom_parts.specs.Sip.{sip}
 use Rattle.fastbloom.specs.Blocked.{InsertsAllInLines, num_lines_of}
 use Rattle.fastbloom.specs.Data.{DefaultFilter}
 use Rattle.fastbloom.specs.Fill.{FilledByInsertsLaw, IsFilledWith, hashes_of, words_of}
 use Rattle.fastbloom.specs.Fill as fill
-use Rattle.fastbloom.specs.Filter.{Unites}
+use Rattle.fastbloom.specs.Filter.{SameShape, Unites}
 use Rattle.fastbloom.specs.Many.{positions_of_all}
 use Rattle.fastbloom.specs.Replies.{InsertsAll}
 use Rattle.fastbloom.specs.declared.parallel.shape.Shape.{Shape}
-use Rattle.bloom_plain.specs.declared.file.layout.Layout.TheVariants.{Lines}
+use Rattle.bloom_files.specs.declared.layout.Layout.TheVariants.{Lines}
 use Rattle.summaries_engine.specs.declared.kinds.AnyFilter.{AnyFilter}
 use Rattle.summaries_engine.specs.declared.kinds.AnyFilter.TheVariants.{Classic, Blocked}
 use Rattle.summaries_engine.specs.Answers.{IsKeyed}
@@ -87,6 +87,27 @@ takes-united shape old part new hashes fits filled united = record {
       refl (record { kind = refl; parts = united });
   kind = refl;
   hasher = united.hasher;
+}
+
+-- of two reasons of which one never holds the other does
+pub first-of : {A : Type 0} → A ⊎ ⊥ → A
+first-of (inl is) = is
+first-of (inr never) = absurd never
+
+-- a filter of a shape and one that is filled in it have one shape
+pub shape-joined : (shape : Shape) (f part : DefaultFilter) (hashes : List ℕ) → IsShapeOf f shape
+    → IsFilledWith shape hashes part → SameShape f part
+shape-joined shape f part hashes fits filled = record {
+  words = sym fits.words ∙ sym filled.words;
+  hashes = sym fits.hashes ∙ sym filled.num_hashes;
+}
+
+-- a union keeps the shape
+pub shape-united : (shape : Shape) (old part new : DefaultFilter) → IsShapeOf old shape
+    → Unites old part new → IsShapeOf new shape
+shape-united shape old part new fits united = record {
+  words = fits.words ∙ united.shape.words;
+  hashes = fits.hashes ∙ united.shape.hashes;
 }
 
 -- an empty filter is filled with no hash

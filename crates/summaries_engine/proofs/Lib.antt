@@ -23,6 +23,7 @@ mod NamingLemmas
 mod RefusalFacts
 mod RefusalLemmas
 mod SealLemmas
+mod ShapeLemmas
 mod ShardFacts
 mod ShardLemmas
 mod SizeFacts

@@ -1,6 +1,5 @@
 -- What takes the hashes of keys, some at once, and what it took so far. This project's own.
-use Rattle.std.specs.Prelude.{◌≡◌, ℕ, List, [], ◌++◌, sym, subst, refl}
-use Rattle.std.proofs.Common.{append-nil}
+use Rattle.std.proofs.Common.{◌≡◌, ℕ, List, [], ◌++◌, sym, subst, refl, append-nil}
 use Rattle.fastbloom.specs.declared.parallel.shape.Shape.{Shape}
 use Rattle.summaries_engine.specs.declared.kinds.AnyFilter.{AnyFilter}
 use Rattle.summaries_engine.specs.Kinds.{HaveSameKind, parts_of}

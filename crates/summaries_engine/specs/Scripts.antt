@@ -21,16 +21,16 @@ parts_script f form =
     ++ (codes ",\"key\":\"" ++ (bytes_text (key_of f.hasher).0 ++ (bytes_text (key_of f.hasher).1
     ++ (codes "\",\"bits_set\":" ++ decimal (ones_of f))))))))))
 
--- a number, or null where there is none
-abbrev pub number_script : Option ℕ → List ℕ
-number_script (Some number) = decimal number
-number_script None = codes "null"
+-- two bounds of a number of items, the upper of which may be missing
+abbrev pub bounds_script : ℕ → Option ℕ → List ℕ
+bounds_script low (Some high) =
+    codes ",\"items_low\":" ++ (decimal low ++ (codes ",\"items_high\":" ++ decimal high))
+bounds_script low None =
+    codes ",\"items_low\":" ++ (decimal low ++ codes ",\"items_high\":null")
 
 -- the members of a Bloom filter's items, by an estimate
 abbrev pub items_script : Estimate → List ℕ
-items_script items =
-    codes ",\"items_low\":" ++ (decimal (least_of items)
-    ++ (codes ",\"items_high\":" ++ number_script (most_of items)))
+items_script items = bounds_script (least_of items) (most_of items)
 
 -- the members of a Bloom filter's rate of false positives as it is, in billionths: the lower bound
 -- is rounded down, and the upper one up

@@ -50,6 +50,16 @@ fn unfilled(error: FilterError) -> Stop
     }
 }
 
+/// The shape of a filter.
+pub(crate) fn shape_of(filter: &BloomFilter) -> Shape
+    ensures { IsShapeOf filter.now result }
+{
+    let Ok(shape) = Shape::new(filter.num_bits(), filter.num_hashes()) else {
+        unreachable!();
+    };
+    shape
+}
+
 /// Lets every worker through at once, and counts them.
 //
 // It is no parameter: a thread takes nothing whose bounds an `impl` assumes.
@@ -95,7 +105,7 @@ pub struct Crew<'a, R> {
 impl<'a, R: Threads> Crew<'a, R> {
     /// The filter, as it is.
     pub fn into_filter(self) -> BloomFilter
-        ensures { result ≡ self.filter }
+        ensures { result ≡ self.entry.filter }
     {
         let Crew {
             rt: _,

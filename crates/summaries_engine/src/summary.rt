@@ -6,11 +6,11 @@ ghost use Rattle.summaries_engine.specs.Answers.{IsKeyed};
 ghost use Rattle.summaries_engine.specs.Inputs.{StopsBuilding, StopsHashes, SummarizesInputs};
 ghost use Rattle.summaries_engine.specs.Sizes.{IsEmpty, IsShapeOf};
 
-use crate::crew::{Begun, Crew};
+use crate::crew::{Begun, Crew, shape_of};
 use crate::inputs::Inputs;
 use crate::keys::filled_from;
 use crate::stop::Stop;
-use fastbloom::{BloomFilter, Shape};
+use fastbloom::BloomFilter;
 use std::alloc::Global;
 use std::sync::Arc;
 use std::thread::Threads;
@@ -96,14 +96,11 @@ pub fn build_through<const END: u8, R: Threads, S: Inputs>(
         (map (λ name. name.now) names.now)) }
 {
     let key = empty.hasher().key();
-    let Ok(shape) = Shape::new(empty.num_bits(), empty.num_hashes()) else {
-        unreachable!();
-    };
     let crew = Crew {
         rt,
         alloc,
         gate,
-        shape,
+        shape: shape_of(&empty),
         workers,
         filter: empty,
     };

@@ -8,4 +8,4 @@ returns-clause-took c = λ first before took.
     takes-more (Blocked first) (Blocked c.args.self.now) (Blocked c.insert_hashes.new.self) before
     c.args.hashes.now took
     (takes-in-lines c.args.self.now c.insert_hashes.new.self c.args.hashes.now
-    c.insert_hashes.ensures)
+    c.insert_hashes.ensures.inserts)
