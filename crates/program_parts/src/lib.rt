@@ -4,18 +4,15 @@
 //! - `values`: rates and keys among them.
 //! - `inputs`: whether an input is the output.
 //! - `output`: standard output, or a file that takes the place of another.
-//! - `progress`: inputs whose lines are counted, as a terminal is told.
 #![tactic(auto)]
 
 mod inputs;
 mod output;
-mod progress;
 mod rows;
 mod values;
 
 pub use inputs::first_output;
 pub use output::{Output, Writer, close, open_output};
-pub use progress::Counted;
 pub use rows::{Kind, Row, arguments_of};
 pub use values::{key_of, rate_of};
 

@@ -1,8 +1,8 @@
 //! Files by their names, and standard input.
 ghost use Rattle.summaries_engine.specs.Stops.{IsUnreadable};
 
+use crate::progress::Counted;
 use either::{Either, Left, Right};
-use program_parts::Counted;
 use std::alloc::Global;
 use std::cell::Cell;
 use std::fs;
@@ -69,9 +69,8 @@ impl<'a, R: Files + Input + Eprint> Inputs for KeyFiles<'a, R> {
         Ok(Counted {
             rt: self.rt,
             input,
-            lines: self.keys,
+            keys: self.keys,
             end: self.end,
-            name: "keys",
             is_on: self.is_on,
         })
     }

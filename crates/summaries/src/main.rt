@@ -3,12 +3,14 @@
 //! - `command_line`: the arguments, by `clap`.
 //! - `tasks`: what each command does, by `summaries_engine`.
 //! - `key_files`, `form`: files of keys, and filters in files.
+//! - `progress`: inputs whose keys are counted, as a terminal is told.
 //! - `telling`: what is told, and the statuses.
 #![tactic(auto)]
 
 mod command_line;
 mod form;
 mod key_files;
+mod progress;
 mod tasks;
 mod telling;
 

@@ -4,37 +4,35 @@ use std::cell::Cell;
 use std::io;
 use std::io::Read;
 
-// How many lines lie between two tells.
+// How many keys lie between two tells.
 const STRETCH: u64 = 1_000_000;
 
-/// An input whose lines are counted, and of which standard error is told each million.
+/// An input whose keys are counted, and of which standard error is told each million.
 #[derive(Drop)]
 pub struct Counted<'a, R, I> {
     pub rt: &'a R,
     pub input: I,
-    /// How many lines were read of all inputs.
-    pub lines: &'a Cell<u64>,
-    /// The byte that ends a line.
+    /// How many keys were read of all inputs.
+    pub keys: &'a Cell<u64>,
+    /// The byte that ends a key.
     pub end: u8,
-    /// How lines are called.
-    pub name: &'static str,
     /// Whether it is told at all.
     pub is_on: bool,
 }
 
 impl<'a, R: Eprint, I> Counted<'a, R, I> {
-    // Counts the lines that end among some bytes.
+    // Counts the keys that end among some bytes.
     fn count(&self, bytes: &[u8]) {
-        let mut lines = self.lines.get();
+        let mut keys = self.keys.get();
         'bytes: for byte in bytes {
             if *byte == self.end {
-                lines = lines.saturating_add(1);
-                if lines % STRETCH == 0 {
-                    let _ = eprintln!(self.rt; "{lines} {}", self.name);
+                keys = keys.saturating_add(1);
+                if keys % STRETCH == 0 {
+                    let _ = eprintln!(self.rt; "{keys} keys");
                 }
             }
         }
-        self.lines.set(lines);
+        self.keys.set(keys);
     }
 }
 
