@@ -93,7 +93,7 @@ const BUILD: &'static [Row] = &[
     (
         WORKERS,
         Kind::Option("N", &["1"], ValueParser::Signed(1, 1024)),
-        "How many threads may fill the filter",
+        "Threads that may fill the filter: one takes its memory, N take N + 4 times that",
         &[],
         &[],
     ),
