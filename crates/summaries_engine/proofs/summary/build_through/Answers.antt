@@ -13,7 +13,7 @@ returns-in-Ok-clause-summary g c =
     rw c.into_filter.ensures
     (summary-made (Classic c.args.empty) (Classic c.in-Ok.crew.filter) did.0 c.requires.empty did.2
     lies g.row.END names
-    (subst (λ key. HashesInputs lies key g.row.END names did.0) c.key.ensures.value did.1))
+    (subst (λ key. HashesInputs lies key g.row.END names did.0) c.key-key.ensures.value did.1))
 
 -- the hashers stay
 pub returns-in-Ok-clause-hasher : goal.returns-in-Ok-clause-hasher
