@@ -1,8 +1,8 @@
 -- Inputs that were taken one after the other.
-use Rattle.std.proofs.Common.{◌≡◌, zero, suc, ◌<◌, ℕ, ◌+◌, inl, inr, List, [], ◌∷◌, ◌++◌, map, length, get_or, take, Bor, Option, refl, sym, subst, ◌∙◌, ap, arith, append-nil}
+use Rattle.std.proofs.Common.{◌≡◌, zero, suc, ◌<◌, ◌≤◌, ℕ, ◌+◌, inl, inr, List, [], ◌∷◌, ◌++◌, map, length, get_or, take, Bor, Option, refl, sym, subst, ◌∙◌, ap, arith, append-nil}
 use Rattle.std.proofs.KnownBytes.{Appends-trans}
 use Rattle.std.proofs.lemmas.Grind.{flat_map-append}
-use Rattle.std.proofs.lemmas.List.{length-map, map-append, take_more}
+use Rattle.std.proofs.lemmas.List.{length-map, map-append, take_all, take_more}
 use Rattle.std.specs.Io.KnownBytes.{Appends}
 use Rattle.bloom_parts.specs.Sip.{sip}
 use Rattle.summaries_engine.specs.declared.kinds.AnyFilter.{AnyFilter}
@@ -12,7 +12,7 @@ use Rattle.summaries_engine.specs.declared.answers.Told.{Told}
 use Rattle.summaries_engine.specs.declared.stop.Stop.{Stop}
 use Rattle.summaries_engine.specs.Answers.{AnswersAll, HashesAll, told_text}
 use Rattle.summaries_engine.specs.Fillers.{HasTaken}
-use Rattle.summaries_engine.specs.Inputs.{HasKeys, HaveKeys, Lies, StopsAsking, StopsAt, StopsAnswered, StopsHashes, StopsInput}
+use Rattle.summaries_engine.specs.Inputs.{HasKeys, HashesInputs, HaveKeys, Lies, StopsAsking, StopsAt, StopsAnswered, StopsHashes, StopsInput}
 use Rattle.summaries_engine.specs.Stops.{StopsAnswers, StopsHashing}
 use Rattle.summaries_engine.specs.Summaries.{joined}
 use Rattle.summaries_engine.proofs.AskingLemmas.{told_text-append}
@@ -101,6 +101,20 @@ names-from (name ∷ names) zero other within = (texts names, refl)
 names-from (name ∷ names) (suc count) other within =
     let rest = names-from names count other (omega (arith, within)) in
     (rest.0, ap (λ l. name.now ∷ l) rest.1)
+
+-- behind the last name all inputs were hashed
+pub hashed-all : {lies : Lies} {key : ℕ × ℕ} {end : ℕ} (names : List (Bor (List ℕ)))
+    (count : ℕ) {hashes : List ℕ} → length names ≤ count
+    → AreHashed lies key end (texts names) count hashes
+    → HashesInputs lies key end (texts names) hashes
+hashed-all {lies = lies} {end = end} names count last so_far = record {
+  parts = so_far.parts;
+  keys = subst (λ l. HaveKeys lies end l so_far.parts)
+      (take_all count (texts names)
+      (subst (λ n. n ≤ count) (sym (length-map names (λ name. name.now))) last))
+      so_far.keys;
+  hashed = so_far.hashed;
+}
 
 module _ (lies : Lies) (end : ℕ) (names : List (Bor (List ℕ))) (count : ℕ)
     (other : Bor (List ℕ)) (within : count < length names) where

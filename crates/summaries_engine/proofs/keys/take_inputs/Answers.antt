@@ -1,8 +1,7 @@
-use Rattle.std.proofs.Common.{◌≡◌, Err, inl, inr, map, rules}
+use Rattle.std.proofs.Common.{◌≡◌, ◌≤◌, Err, inl, inr, length, rules}
 use Rattle.std.proofs.lemmas.Result.{on_ok_weaker}
-use Rattle.summaries_engine.specs.Inputs.{HashesInputs}
 use Rattle.summaries_engine.proofs.FillerLemmas.{taken-all}
-use Rattle.summaries_engine.proofs.InputLemmas.{hashed-more, hashes-stopped, hashes-unopened}
+use Rattle.summaries_engine.proofs.InputLemmas.{hashed-all, hashed-more, hashes-stopped, hashes-unopened}
 use Rattle.summaries_engine.proofs.keys.take_inputs.Goals as goal
 
 -- an input isn't had
@@ -32,12 +31,11 @@ returns-in_err-take_keys-clause-stops g c =
 pub returns-clause-all : goal.returns-clause-all
 returns-clause-all g c =
     let so_far = c.names.invariant.0 in
-    let all : HashesInputs (g.S.Inputs.has c.args.inputs.now) c.args.key g.row.END
-        (map (λ name. name.now) c.args.names.now) so_far.hashes = search (rules, so_far.hashed) in
-    on_ok_weaker c.give.result _ _
+    let last : length c.args.names.now ≤ c.names.name-index = search rules in
+    on_ok_weaker c.give.result
     (λ gives. (
       so_far.hashes,
-      all,
+      hashed-all c.args.names.now c.names.name-index last so_far.hashed,
       taken-all g.F.Filler.took c.args.filler.now c.give.new.filler so_far.hashes
           (gives c.args.filler.now so_far.hashes so_far.taken),
     )) c.give.ensures.taken

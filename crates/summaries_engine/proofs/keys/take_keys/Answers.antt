@@ -1,6 +1,6 @@
 use Rattle.std.proofs.Common.{inl, rules}
 use Rattle.summaries_engine.proofs.KeyLemmas.{taking-end, taking-next, taking-none}
-use Rattle.summaries_engine.proofs.StopLemmas.{hashing-stops, why-long}
+use Rattle.summaries_engine.proofs.StopLemmas.{hashing-stops, why-long, why-read}
 use Rattle.summaries_engine.proofs.keys.take_keys.Goals as goal
 
 -- no key yet
@@ -23,6 +23,11 @@ returns-in-Ok-TooLong-clause-stops g c =
     inl (hashing-stops c.keys.invariant.0
     (why-long c.next_line.new.self _ c.keys.invariant.0.has_read.longest
     (rw c.in-Ok-TooLong.field-0-is at c.in-Ok-TooLong.ensures.next) c.too_long.ensures))
+
+-- a read failed
+pub returns-in-Err-clause-stops : goal.returns-in-Err-clause-stops
+returns-in-Err-clause-stops g c =
+    inl (hashing-stops c.keys.invariant.0 (why-read c.unread.ensures.failed))
 
 -- one key more
 pub keys-preserved : goal.keys-preserved
