@@ -34,6 +34,7 @@ fn holds(alloc: Global, pair: &mut Pair, line: &Line) -> Result<bool, Refused> {
             Ok(*said & answers::insert_between(pair, *hash, *first, *second))
         }
         Op::Meet(words, unites) => memory::meet(alloc, pair, words, *unites, *said),
+        Op::Show => Ok(memory::show(alloc, pair) == *said),
         Op::Clone => said_so(*said, memory::copy(alloc, pair)),
         Op::Cross(by_text) => said_so(*said, memory::cross(alloc, pair, *by_text)),
         Op::Take => said_so(*said, memory::take(alloc, pair)),

@@ -93,6 +93,12 @@ pub(crate) fn compare(
     }
 }
 
+/// Whether both filters are shown.
+pub(crate) fn show(alloc: Global, pair: &Pair) -> bool {
+    let Pair { plain, shared } = pair;
+    format!(in alloc; "{plain:?} {shared:?}").is_ok()
+}
+
 // Copies of both filters.
 fn copies_of(alloc: Global, pair: &Pair) -> Result<Pair, Refused> {
     match named("try_clone", pair.plain.try_clone(alloc)) {

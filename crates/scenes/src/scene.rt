@@ -54,6 +54,8 @@ pub(crate) enum Op {
     Meet(&'static [u64], bool),
     /// `union` and `intersect` of the shared filter with itself.
     UniteWithItself,
+    /// `Debug` of both, which may be any text.
+    Show,
     /// `try_clone`: the copies equal the filters, and differ once 42 went into the copies.
     Clone,
     /// Each filter goes on as it is made of the other's data, by JSON text if that is said.

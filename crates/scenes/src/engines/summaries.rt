@@ -10,7 +10,7 @@ use crate::fills::{Watching, gate_for};
 use crate::telling::{has_text, tell_row};
 use fastbloom::{FilterError, Shape};
 use odd::Odd;
-use rows::{A, ACTS, Act, Row, UNREAD};
+use rows::{A, ACTS, Act, Row, UNREAD, reading_of};
 use std::alloc::Global;
 use std::sync::Arc;
 use std::sync::atomic::Ordering;
@@ -121,14 +121,15 @@ fn is_right<R: Threads + AllocGlobal>(rt: &R, row: &Row, end: usize, filter: &An
     requires { IsKeyed filter.now }
 {
     let seen = Seen::new();
+    let (reading, text) = reading_of(row, end);
     let odd = Odd {
         keys: row.1.get(..end).unwrap_or(&[]),
-        reading: row.2,
+        reading,
         seen: &seen,
     };
     let mut sink = Sink::new(rt.alloc(), row.3, &seen);
     let ended = carry_out(rt, row.0, &odd, filter, &mut sink);
-    is_told(rt.alloc(), ended, row.5) & (sink.has(row.4))
+    is_told(rt.alloc(), ended, text) & sink.has(row.4)
 }
 
 // The same for each beginning of its input behind which a read may fail: any, or the whole, where

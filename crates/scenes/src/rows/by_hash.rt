@@ -1,7 +1,7 @@
 //! Filters of words, by hash: replies, words, lists, copies and estimates.
 use crate::scene::Op::{
     Build, Clear, Clone, Compare, Contains, Cross, Estimates, Insert, InsertBetween, Ones, Replay,
-    Take, Words,
+    Show, Take, Words,
 };
 use crate::scene::Size::{Expected, Hashes, Numbers};
 use crate::scene::{Make, Scene};
@@ -62,6 +62,7 @@ pub(super) const CALLS: &'static [Scene] = &[
         (Cross(false), true),
         (Cross(true), true),
         (Ones(6), true),
+        (Show, true),
         (Estimates, true),
         (Words(&[5, 6, 9]), true),
     ),
@@ -71,6 +72,7 @@ pub(super) const CALLS: &'static [Scene] = &[
         Make::Words(&[4, 8], 0, Hashes(1)),
         (InsertBetween(1 << 63, 4, 9), true),
         (Words(&[4, 9]), true),
+        (Clone, true),
     ),
     scene!(
         "a take gives the words and sets every one to 0",
