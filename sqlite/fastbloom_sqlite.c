@@ -54,14 +54,14 @@ typedef struct filter {
     uint8_t key[KEY], *file;
 } filter;
 
-/* Reads digits, and returns where they end, or NULL where there are none or too many. */
+/* Reads digits, and returns where they end, or NULL where there are too many. No digits are 0. */
 static const char *read_number(const char *text, uint64_t *number) {
     const char *end = text;
     for (*number = 0; *end >= '0' && *end <= '9'; end++) {
         if (*number > (UINT64_MAX - 9) / 10) return NULL;
         *number = *number * 10 + (uint64_t)(*end - '0');
     }
-    return end == text ? NULL : end;
+    return end;
 }
 
 /* The size for so many items at a rate like 1/1000. It returns NULL, or what is wrong. */

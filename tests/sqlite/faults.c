@@ -123,6 +123,8 @@ static long run_session(const char *path, long *refused, int wanted, long step) 
     long faults = 0;
     remove(path);
     sqlite3 *db = open_database(path);
+    /* (where each text that the extension reads is converted, for which it needs memory) */
+    if (wanted == SQLITE_NOMEM) want(db, "PRAGMA encoding = 'UTF-16le'", "");
     want(db,
          "CREATE TABLE numbers(value); CREATE TABLE t(k); INSERT INTO numbers "
          "WITH RECURSIVE n(i) AS (SELECT 1 UNION ALL SELECT i + 1 FROM n WHERE i < 99) "

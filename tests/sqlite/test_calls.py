@@ -207,6 +207,8 @@ REFUSED = {
         "SELECT bloom_contains(5, 1)",
         "SELECT bloom_contains(x'', 1)",
         "SELECT bloom_contains(zeroblob(63), 1)",
+        "SELECT bloom_contains(substr(file, 1, 63), 1) FROM seen",
+        "SELECT bloom_contains(CAST(file AS TEXT), 1) FROM seen",
     ],
     "the file is cut": [
         "SELECT bloom_contains(substr(file, 1, length(file) - 1), 1) FROM seen",
@@ -303,6 +305,21 @@ def test_a_file_that_differs_by_row_is_checked_in_each(db):
     changed = "CAST(substr(file, 1, 99) || 'x' || substr(file, 101) AS BLOB)"
     db.execute(f"INSERT INTO files SELECT 1, {changed} FROM files")
     assert db.refuses("the seal is wrong", query)
+    db.execute(f"CREATE TABLE other AS SELECT {changed} AS file FROM seen")
+    assert db.refuses("the seal is wrong", "SELECT bloom_in('other', 'in')")
+
+
+def test_files_that_others_may_make(db):
+    """A file without a seal, and one with as many hashes as are allowed."""
+    db.insert("in")
+    unsealed = db.file()[:40] + bytes(8) + db.file()[48:]
+    db.create("other")
+    db.execute("INSERT INTO other(file) VALUES(?)", (unsealed,))
+    assert db.file("other") == db.file() and db.one("SELECT bloom_contains(?, 'in')", unsealed) == 1
+    model = MODEL.Blocked(1, 64)
+    model.insert(model_hash(MODEL, b"in"))
+    query = "SELECT bloom_contains(?1, 'in'), bloom_contains(?1, 'out')"
+    assert db.execute(query, (model_file(MODEL, model),)).fetchone() == (1, 0)
 
 
 def test_info_tells_items_estimate_and_rate():
