@@ -345,11 +345,27 @@ def test_info_tells_items_estimate_and_rate():
         assert info["rate"] == pytest.approx(rate, rel=1e-5)
     false = sum(db.has(f"no{number}") for number in range(20000))
     assert abs(false / 20000 - rate) < 0.2 * rate
+    # One item, of which some positions are the same.
+    for item in range(50):
+        db.create("one", items=1)
+        db.insert(item, into="one")
+        assert json.loads(db.one("SELECT info FROM one"))["estimate"] == 1
+        db.execute("DROP TABLE one")
     # Each bit is set.
     db.create("full", items=1)
     assert db.insert(*range(5000), into="full") > 100
     assert json.loads(db.one("SELECT info FROM full")) == {"items": 1, "estimate": None, "rate": 1}
     db.close()
+
+
+def test_rows_about_the_filter(db):
+    db.insert("crab")
+    assert db.execute("SELECT info FROM seen WHERE info = 'crab' OR info IS NULL").fetchall() == []
+    for where in ("item = 'crab'", "info ->> 'items' = 1000", "file NOT NULL"):
+        assert db.execute(f"SELECT info ->> 'items' FROM seen WHERE {where}").fetchall() == [
+            (1000,)
+        ]
+    assert db.execute("SELECT info FROM seen WHERE item = 'no'").fetchall() == []
 
 
 def test_the_rate_is_met():
