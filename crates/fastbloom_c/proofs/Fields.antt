@@ -1,11 +1,5 @@
 -- The machine values of shared words. Assumes `Logic`.
-use Rattle.std.proofs.Common.{◌≡◌, ℕ, List, [], ◌∷◌, ◌++◌, refl, ap, ◌∙◌, w64}
-use seplogic.Ra.Ura.{Ura}
-use mir.Val.{Val, vint, vstruct, vcons, vnil, of_list}
-use types.Logic.{Logic}
-use denote.RattleType.{RattleType}
-use denote.RawPtr.{Ptr, ptr_val}
-use denote.Laws.{Is}
+use Rattle.atomic_table.proofs.Names.{◌≡◌, ℕ, List, [], ◌∷◌, ◌++◌, refl, ap, ◌∙◌, w64, Val, vint, vstruct, vcons, vnil, of_list, RattleType, Ptr, ptr_val, Is, Ura, Logic}
 use denote.Opens.{Opens}
 use denote.Struct.Struct.{Struct}
 use denote.Struct.Owning.{shape}

@@ -96,6 +96,7 @@ impl RawWords {
 
     /// Clears every bit of a word. Processors store in the one order of all steps by an exchange.
     #[inline(always)]
+    #[tactic(auto, using(bloom_parts::specs::Made::made_by_zero))]
     pub fn store_zero(&self, word: usize)
         requires { word < self.now.len }
         ensures { MadeZero (vector_of self.now.at self.now.len) word }

@@ -1,9 +1,6 @@
 -- Passed words may go to any thread: what is known of them names no thread.
-use mathlib.Core.List.{List, [], ◌∷◌}
-use Prim.Native.Nat.{ℕ, ◌+◌}
+use Rattle.atomic_table.proofs.Names.{List, [], ◌∷◌, ℕ, ◌+◌, RawPtr, usize, Ptr, block_of, count_of}
 use base.Shift.{Keyless}
-use denote.Builtin.{RawPtr, usize}
-use denote.RawPtr.{Ptr, block_of, count_of}
 use denote.Struct.Struct.{exits_of}
 use denote.Struct.Owning.{shape, fields, to}
 use denote.Param.Send.{IsSend, AllSend, owning_send, struct_send, sendable}

@@ -1,42 +1,18 @@
 -- `shared` hands on what C promised.
-use Rattle.std.proofs.Common.{◌≡◌, ℕ, ◌<◌, ◌^◌, List, [], ◌∷◌, ◌++◌, refl, sym, ap, ◌∙◌, subst, w64}
-use mir.Val.{Val, vint, vstruct, of_list}
-use base.Logic.{SProp, ent, emp, id⊢}
-use base.Fml.{ftrue}
-use prog.Wp.{WpFn}
-use types.Kit.{‵, raw, ◌⊛◌, ◌$◌, ◌∵◌, !, qed, by, move, keep, drop, split, join, fsplit, fjoin, fpack, suffices, use0, feq_i, flt_i}
-use types.Run.{stop, fld, of_opd, no_more, and_then, returns, enter}
-use types.ByLocal.{alloc_all, pass_all, free_all, look_at, get, get_in, sets}
-use types.Part.{agg, sub, whole}
-use contract.Monad.{fact, fact_i}
-use contract.Running.{tables}
-use denote.Exit.{yes}
-use denote.RattleType.{RattleType, Valss, owns}
-use denote.Builtin.{RawPtr, usize}
-use denote.Laws.{Is, Typed, shows}
-use denote.Signature.{types_at, plain}
-use denote.RawPtr.{Ptr, ptr_val}
-use denote.Steps.{nothing, peeks}
-use denote.Struct.Struct.{Struct, within}
+use Rattle.atomic_table.proofs.Names.{◌≡◌, ℕ, ◌<◌, ◌^◌, List, [], ◌∷◌, refl, sym, subst, w64, Val, vint, SProp, ent, emp, id⊢, ftrue, WpFn, ‵, raw, ◌⊛◌, ◌$◌, ◌∵◌, !, qed, by, move, keep, drop, split, join, fsplit, fjoin, fpack, suffices, feq_i, flt_i, stop, fld, of_opd, no_more, and_then, returns, enter, alloc_all, pass_all, free_all, look_at, get, get_in, sets, agg, sub, whole, fact, tables, yes, Valss, owns, RawPtr, usize, Is, shows, types_at, plain, Ptr, ptr_val, nothing, peeks, Stays, stay_dropped, walk_of, Goes-dropped, ◌++◌, use0, fact_i}
+use denote.Laws.{Typed}
+use denote.Struct.Struct.{within}
 use denote.Struct.Owning.{shape}
-use denote.Triple.Walked.{Stays, stay_dropped, walk_of, Goes-dropped}
 use Rattle.core.proofs.atomic.Steps.{Ptr-Good}
 use Rattle.std.proofs.raw_atomic.Walks.{proved_at, leaves}
 use Rattle.fastbloom_c.specs.contracts.words.RawWords as C
 use Rattle.fastbloom_c.specs.contracts.words.PassedWords as P
 use Rattle.fastbloom_c.proofs.words.PassedWords.TheLaws as P_laws
-use Rattle.fastbloom_c.proofs.Fields.{words_of}
+use Rattle.fastbloom_c.proofs.Fields.{words_of, words_told, Data}
 use Rattle.fastbloom_c.specs.contracts.words.PassedWords.shared.{ended, clauses}
 use Rattle.fastbloom_c.specs.contracts.words.PassedWords.shared.Key.{name as #self}
 use Rattle.fastbloom_c.proofs.words.PassedWords.shared.Statement.{statement}
 use Rattle.fastbloom_c.proofs.words.PassedWords.shared.Code as code
-
-abbrev Data : RattleType
-Data = Struct (shape P.the_type)
-
-told : (p : Ptr) (n : ℕ) (vs : List Val) → Is Data (p, (n, tt)) vs → vs ≡ words_of p n ∷ []
-told p n vs is = is.1.0 ∙ ap (λ (ws : List Val). vstruct (of_list (ws ++ (is.0.1.0 ++ []))) ∷ [])
-    is.1.1.0 ∙ ap (λ (ws : List Val). vstruct (of_list (ptr_val p ∷ (ws ++ []))) ∷ []) is.1.1.1.0.0
 
 pub shared_spec : {M : Type 1} → statement M
 shared_spec 𝓤 𝓛 𝓜 𝓡 wired =
@@ -51,8 +27,8 @@ shared_spec 𝓤 𝓛 𝓜 𝓡 wired =
     let w : Val = words_of p n in
     qed 𝓛 ((‵ ftrue ⊛ ‵ (owns (types_at En.signature.params κs) z.0.3 z.0.4)) ∷ raw ((c κs
     z.0.3).requires z.1) ∷ []) ∵ split ! $ move ! (1 ∷ []) $ fsplit ! $ fsplit ! $
-    peeks ! Data (Is Data) (shows 𝓛 Data) (p, (n, tt)) z.0.4.0 (λ is. let ws = told p n z.0.4.0 is
-    in let small : n < 2 ^ 64 = is.1.1.1.0.1 in
+    peeks ! Data (Is Data) (shows 𝓛 Data) (p, (n, tt)) z.0.4.0 (λ is.
+    let ws = words_told p n z.0.4.0 is in let small : n < 2 ^ 64 = is.1.1.1.0.1 in
     let typed = (subst (Typed P.the_row.mir) ws (((P_laws.the_row_laws).lawful 𝓛).typed v z.0.4.0
     are.0)).0 in drop ! $
     suffices ! (Run (w ∷ [])) (subst (λ (us : List Val). ent 𝓤 (Run (w ∷ [])) (Run us)) (sym (λ i.

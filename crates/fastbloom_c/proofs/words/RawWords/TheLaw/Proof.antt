@@ -1,8 +1,6 @@
 -- A `&` to shared words holds what is known of them, which can be had twice. Assumes `Logic`.
-use base.Logic.{snd∗}
+use Rattle.atomic_table.proofs.Names.{snd∗, sem, copy_shared}
 use base.Before.{before}
-use types.Logic.{sem}
-use denote.Param.Shared.{copy_shared}
 use denote.Struct.Field.{RawPtr-field, usize-field}
 use denote.Struct.Laws.{RawPtr-copy, usize-copy}
 use denote.Struct.Lending.{of_Lends}

@@ -1,6 +1,4 @@
-use Rattle.atomic_table.proofs.Names.{◌≡◌, ℕ, ◌^◌, ◌<◌, List, [], ◌∷◌, sym, refl, w64, named, Val, vint, vptr, SProp, Lft, ftrue, flft, ‵, raw, ◌⊛◌, ◌$◌, ◌∵◌, !, qed, by, move, keep, drop, split, join, fsplit, fjoin, use1, rewrite, feq_i, flt_i, stop, fld, load, of_opd, returns, enter, alloc_all, pass_all, free_all, look_at, through, sets, env, sub, whole, look_in, tables, yes, RattleType, owns, types_at, plain, Ptr, block_ptr, nothing, Stays, stay_dropped, walk_of, Goes-dropped, fact, Is, shows, cell_at, peeks, RefOf, shr_vals, shr_Tells, hidden_shr, looks, shuts, lent_out}
-use types.Kit.{use0}
-use contract.Monad.{fact_i}
+use Rattle.atomic_table.proofs.Names.{◌≡◌, ℕ, ◌^◌, ◌<◌, List, [], ◌∷◌, sym, refl, w64, named, Val, vint, vptr, SProp, Lft, ftrue, flft, ‵, raw, ◌⊛◌, ◌$◌, ◌∵◌, !, qed, by, move, keep, drop, split, join, fsplit, fjoin, use1, rewrite, feq_i, flt_i, stop, fld, load, of_opd, returns, enter, alloc_all, pass_all, free_all, look_at, through, sets, env, sub, whole, look_in, tables, yes, RattleType, owns, types_at, plain, Ptr, block_ptr, nothing, Stays, stay_dropped, walk_of, Goes-dropped, fact, Is, shows, cell_at, peeks, RefOf, shr_vals, shr_Tells, hidden_shr, looks, shuts, lent_out, use0, fact_i}
 use Rattle.atomic_table.proofs.Walks.{proved, leaves}
 use Rattle.fastbloom_c.specs.contracts.words.RawWords as C
 use Rattle.fastbloom_c.proofs.Fields.{words_of, Data, words_told, words_open}
