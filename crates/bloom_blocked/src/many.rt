@@ -11,7 +11,7 @@ ghost use Rattle.bloom_blocked.specs.Many.{positions_of_all, all_are_in_lines, T
 
 mod telling;
 
-use crate::words::{LINE, contains_hash, inner, line_start};
+use crate::by_hash::{LINE, contains_hash, inner, line_start};
 use bloom_parts::bit_vector::word_and_mask_of_hash;
 use bloom_parts::hasher::DoubleHasher;
 use bloom_parts::slices::{clear, contains_by_count};

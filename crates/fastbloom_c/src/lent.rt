@@ -2,7 +2,7 @@
 ghost use Rattle.std.specs.Prelude.{◌≡◌};
 ghost use Rattle.fastbloom_c.specs.Passed.{MakeFilter, vector_of};
 
-use crate::words::RawWords;
+use crate::passed_words::RawWords;
 use bloom_parts::bit_vector::{Turn, TurnWords};
 use std::marker::Model;
 

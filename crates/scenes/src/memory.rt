@@ -2,7 +2,7 @@
 mod data;
 
 use crate::making::{Pair, Refused, are_alike, have_words, named, pair_of, paired};
-use crate::scene::{Make, Size};
+use crate::scripted::{Make, Size};
 pub(crate) use data::cross;
 use fastbloom::{AtomicBloomFilter, BloomFilter, Command};
 use std::alloc::Global;

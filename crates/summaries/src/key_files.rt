@@ -8,7 +8,7 @@ use std::os::unix::fs::MetadataExt;
 use std::rt::Files;
 use summaries_engine::{Inputs, Stop, unread};
 
-/// The name of standard input, as it is told.
+/// The name of standard input, as it is reported.
 pub const STANDARD: &str = "standard input";
 
 // Where Linux keeps what the standard streams are.

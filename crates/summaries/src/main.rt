@@ -3,7 +3,7 @@
 //! - `command_line`, `rates`: the arguments, by `clap`, and rates among them.
 //! - `tasks`: what each command does, by `summaries_engine`.
 //! - `key_files`, `form`: files of keys, and filters in files.
-//! - `telling`: what is told, and the statuses.
+//! - `telling`: what is reported, and the statuses.
 #![tactic(auto)]
 
 mod command_line;
@@ -21,7 +21,7 @@ use std::thread::Threads;
 use summaries_engine::{Stop, written};
 use telling::{BAD, DONE, tell, tell_output, tell_stop};
 
-// The status of what came of a task, and what is told of it.
+// The status of what came of a task, and what is reported about it.
 fn status_of<R: Eprint>(rt: &R, done: Result<(), Stop>) -> u8 {
     match done {
         Ok(()) => DONE,

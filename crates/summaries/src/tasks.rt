@@ -83,7 +83,7 @@ fn run_unite<R: Files + Input + Print + AllocGlobal>(
     unite_files(rt, matches, names.as_slice())
 }
 
-// Prints what is told of filters.
+// Prints what is reported about filters.
 fn print_facts<R: Print>(rt: &R, facts: &str) -> Result<(), Stop> {
     written(print!(rt; "{facts}"), "the facts can't be written")
 }

@@ -176,7 +176,7 @@ const CALLS: &'static [Calls] = &[
 ];
 
 // Whether each call returns what it is to, and leaves both filters alike, and the others too. The
-// first that doesn't is told.
+// first that doesn't is reported.
 fn hold(rt: &HostRuntime, pair: &mut Pair, other: &Pair, ops: &[Op]) -> bool {
     'ops: for (i, op) in ops.iter().enumerate() {
         let is_right = holds(rt.alloc(), pair, other, op);

@@ -36,7 +36,7 @@ pub(crate) const FAILING: Reading = Reading {
     fails: Some(ErrorKind::BrokenPipe),
 };
 
-/// Kinds of failed reads, each of which has to be told as itself.
+/// Kinds of failed reads, each of which has to be reported as itself.
 pub(crate) const KINDS: [ErrorKind; 6] = [
     ErrorKind::BrokenPipe,
     ErrorKind::NotFound,

@@ -60,7 +60,7 @@ const KEYED: &[u8] = b"fbloom\01\x02\0\0\0\0\0\0\0\
 const KEYED_TEXT: &[u8] =
     b"{\"bits\":{\"bits\":[268500992]},\"num_hashes_minus_one\":1,\"k0\":1,\"k1\":2}\n";
 
-/// What is told of a read that fails, by the first of the kinds.
+/// What is reported about a read that fails, by the first of the kinds.
 pub(crate) const UNREAD: &'static str = "odd: it can't be read: broken pipe";
 
 // The same, of each kind.
