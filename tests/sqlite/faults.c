@@ -78,9 +78,10 @@ static int run(sqlite3 *db, const char *sql, value found) {
     while (code == SQLITE_OK && *sql != 0) {
         code = sqlite3_prepare_v2(db, sql, -1, &it, &sql);
         while (code == SQLITE_OK && sqlite3_step(it) == SQLITE_ROW) {
+            bool is_null = sqlite3_column_type(it, 0) == SQLITE_NULL;
             const char *text = (const void *)sqlite3_column_text(it, 0);
-            if (text == NULL) code = SQLITE_NOMEM;
-            snprintf(found, sizeof(value), "%s", text == NULL ? "" : text);
+            if (text == NULL && !is_null) code = SQLITE_NOMEM;
+            snprintf(found, sizeof(value), "%s", text == NULL ? "NULL" : text);
         }
         int ended = sqlite3_finalize(it);
         if (code == SQLITE_OK) code = ended;
@@ -110,7 +111,7 @@ static const char *const session[] = {
     "INSERT OR IGNORE INTO seen(item) VALUES('a'), ('b')",
     "BEGIN; INSERT INTO seen(item) SELECT value FROM numbers; COMMIT",
     "INSERT INTO seen(file) SELECT bloom('c' || value, 20000, '1/1000') FROM numbers",
-    "SELECT count(*) FROM numbers WHERE EXISTS(SELECT 1 FROM seen WHERE item = value)",
+    "SELECT count(*) FROM numbers JOIN seen ON item = value",
     "SELECT count(*) FROM numbers WHERE bloom_in('seen', 'c' || value)",
     "SELECT bloom_contains(file, 'a') + length(info) FROM seen",
     "SELECT bloom_contains(bloom(value, 20, '1/100', x'000102030405060708090a0b0c0d0e0f'), 1) "
