@@ -19,9 +19,9 @@ SQLITE_EXTENSION_INIT1
 #include <string.h>
 #include <sys/random.h>
 
-/* Bytes of a file's head, of a line and of a key; words and bits of a line; lines in a row, and in
- * a table at most: 64 GiB. */
-enum { HEAD = 64, LINE = 64, KEY = 16, WORDS = 8, BITS = 512, LINES = 63, MOST = 1 << 30 };
+/* Bytes of a file's head, of a line and of a key; words of a line; lines in a row, and in a table
+ * at most: 64 GiB. */
+enum { HEAD = 64, LINE = 64, KEY = 16, WORDS = 8, LINES = 63, MOST = 1 << 30 };
 enum { COLUMN_ITEM, COLUMN_INFO, COLUMN_FILE };
 
 /* The hash of an item. It returns 1, or 0 for NULL, or -1 where there is no memory. */
@@ -54,14 +54,14 @@ typedef struct filter {
     uint8_t key[KEY], *file;
 } filter;
 
-/* Reads digits, and returns where they end, or NULL where there are none or too many. */
+/* Reads digits, and returns where they end, or NULL where there are too many. No digits are 0. */
 static const char *read_number(const char *text, uint64_t *number) {
     const char *end = text;
     for (*number = 0; *end >= '0' && *end <= '9'; end++) {
         if (*number > (UINT64_MAX - 9) / 10) return NULL;
         *number = *number * 10 + (uint64_t)(*end - '0');
     }
-    return end == text ? NULL : end;
+    return end;
 }
 
 /* The size for so many items at a rate like 1/1000. It returns NULL, or what is wrong. */
@@ -463,27 +463,19 @@ static int next(sqlite3_vtab_cursor *base) {
 
 static int at_end(sqlite3_vtab_cursor *base) { return !((cursor *)base)->has_row; }
 
-/* Tells about how many items there are, and the rate of false positives now. Each line is a Bloom
- * filter of 512 bits, of which an item draws some. For a line with so many set bits the library
- * tells how many were drawn, and how often it errs. A full line counts as one that lacks a bit. */
+/* Tells about how many items there are, or null where each bit is set, and the rate of false
+ * positives now, both as the library does. */
 static void result_info(sqlite3_context *context, uint64_t items, const filter *f) {
-    uint64_t lines_with[BITS + 1] = {0}, line[WORDS] = {0}, from, to;
+    static const char json[] = "{\"items\":%llu,\"estimate\":%s,\"rate\":%.6g}";
     const uint64_t *words = (const void *)(f->file + HEAD);
-    double drawn = 0, rate = 0, lines = (double)(f->num_words / WORDS);
-    size_t least, most;
-    for (size_t at = 0; at < f->num_words; at += WORDS)
-        lines_with[fastbloom_count_ones(words + at, WORDS)]++;
-    for (int set = 0; set <= BITS; set++) {
-        double count = (double)lines_with[set];
-        if (set > 0 && set < BITS) line[set / 64] |= UINT64_C(1) << set % 64;
-        if (count == 0 || !fastbloom_estimate(line, WORDS, 1, &least, &most)) continue;
-        drawn += count * (double)(least + most) / 2;
-        if (set == BITS) line[0] |= 1;
-        if (fastbloom_rate_now(line, WORDS, f->num_hashes, &from, &to))
-            rate += count / lines * (double)to / 0x1p63;
-    }
-    static const char json[] = "{\"items\":%llu,\"estimate\":%.0f,\"rate\":%.6g}";
-    char *text = sqlite3_mprintf(json, items, drawn / f->num_hashes, rate);
+    char estimate[24] = "null";
+    uint64_t from, to;
+    size_t low, high;
+    (void)!fastbloom_blocked_estimate(words, f->num_words, f->num_hashes, &low, &high);
+    (void)!fastbloom_blocked_rate_now(words, f->num_words, f->num_hashes, &from, &to);
+    unsigned long long about = low > 0 ? low : high;
+    if (high < SIZE_MAX) sqlite3_snprintf(sizeof estimate, estimate, "%llu", about);
+    char *text = sqlite3_mprintf(json, items, estimate, (double)to / 0x1p63);
     if (text == NULL) fail(context, NULL);
     if (text != NULL) sqlite3_result_text(context, text, -1, sqlite3_free);
 }
@@ -537,6 +529,9 @@ static int insert_file(table *t, sqlite3_value *value) {
         memcmp(f.key, t->f.key, KEY) != 0)
         return refuse(t, "the file is for other items, another rate or another key");
     int code = SQLITE_OK;
+    /* A damaged row is refused before another one is written, which SQLite may not undo. */
+    for (sqlite3_int64 row = 1; code == SQLITE_OK && bytes_of(t, row) > 0; row++)
+        code = open_row(t, row, &bits);
     for (sqlite3_int64 row = 1; code == SQLITE_OK && (len = bytes_of(t, row)) > 0; row++) {
         code = open_row(t, row, &bits);
         if (code == SQLITE_OK) code = sqlite3_blob_read(bits, t->row, (int)len, 0);

@@ -88,7 +88,7 @@ def drawn_words(draw, num_words):
 
 
 def items_of(words, hashes):
-    """The number of items at which as many bits are expected to be on, to fifty digits."""
+    """The number of items at which as many bits are expected to be set, to fifty digits."""
     bits, ones = 64 * len(words), sum(bin(word).count("1") for word in words)
     with localcontext() as context:
         context.prec = 50
@@ -423,7 +423,7 @@ class Sizes(unittest.TestCase):
         for items in (1.5, "10", None):
             self.assertRaises(TypeError, one.expected_rate, items)
 
-    def test_the_rate_of_a_filter_is_that_of_the_bits_that_are_on(self):
+    def test_the_rate_of_a_filter_is_that_of_the_bits_that_are_set(self):
         draw = random.Random(61)
         for _ in range(1000):
             words, hashes = draw.randint(1, 40), draw.choice((1, 2, 3, 7, 13, 44, 64))
@@ -459,7 +459,7 @@ class Sizes(unittest.TestCase):
             self.assertRaises(ValueError, one.expected_false_positive_rate, items)
         self.assertRaises(TypeError, one.expected_false_positive_rate, 1.5)
 
-    def test_an_estimate_is_that_of_the_bits_that_are_on(self):
+    def test_an_estimate_is_that_of_the_bits_that_are_set(self):
         # Of 64 bits one is expected to be set after one hash, 1.98 after two, 2.95 after three.
         for bits, hashes, wanted in (
             (0, 1, (0, 0)),

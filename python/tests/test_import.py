@@ -70,11 +70,11 @@ class Library(unittest.TestCase):
         told = self.run_import(FASTBLOOM_LIB=str(self.top / "none"))
         self.assertRegex(told, r"^ImportError: .* isn't found .*none.* bin/build-c.* FASTBLOOM_LIB")
 
-    def test_a_library_that_is_not_there_is_told(self):
+    def test_a_library_that_is_not_there_is_reported(self):
         told = self.run_import()
         self.assertRegex(told, r"^ImportError: .* isn't found .* bin/build-c.* FASTBLOOM_LIB")
 
-    def test_another_library_is_told(self):
+    def test_another_library_is_reported(self):
         told = self.run_import(FASTBLOOM_LIB=str(loaded("libc.so")))
         self.assertRegex(told, r"^ImportError: .* is no library of fastbloom")
 

@@ -330,7 +330,7 @@ static void try_twice(void) {
     wants("none of three is new in a line", 0, fresh);
 }
 
-/* Many hashes into words that are larger than a cache, as into those of a plain filter. */
+/* Many hashes into words that are larger than a cache, as into those of plain filters. */
 static void try_large(void) {
     enum { LARGE = (1 << 19) + 5, COUNT = 20005 };
     uint64_t *words = calloc(LARGE, sizeof *words), *plain = calloc(LARGE, sizeof *words);
@@ -343,6 +343,9 @@ static void try_large(void) {
     wants("many words", 1, fastbloom_equal(words, LARGE, plain, LARGE));
     wants("no bit without a hash", 1, fastbloom_shared_insert_hashes(large, 7, hashes, 0));
     wants("the same words", 1, fastbloom_equal(words, LARGE, plain, LARGE));
+    wants("many hashes in lines", fastbloom_blocked_insert_hashes(plain, LARGE, 7, hashes, COUNT),
+          fastbloom_blocked_shared_insert_hashes(large, 7, hashes, COUNT));
+    wants("many lines", 1, fastbloom_equal(words, LARGE, plain, LARGE));
     free(words), free(plain), free(hashes);
 }
 

@@ -1,26 +1,40 @@
 #!/usr/bin/env python3
-"""Measures what docs/SQLITE.md tells: tests/sqlite/bench.py FOLDER [ITEMS..]
+"""Measures what docs/SQLITE.md tells, and prints its tables: tests/sqlite/bench.py FOLDER [ITEMS..]
 
-For each number of items, by default 10^6 and 10^7, it fills a filter, a table with the keys as TEXT
-PRIMARY KEY, and one with 64-bit hashes of them as INTEGER PRIMARY KEY, each in a database of its
-own, and looks up keys that are there and others. Keys have 17 bytes and come in drawn order. Each
-database has a cache of 64 MB. Look-ups are also made after the file was dropped from the system's
-cache. Then batches of 10^6 keys meet the table of texts. Every row has seconds of the processor
-and, behind a stroke, of the clock; look-ups have microseconds each.
+For each number of items, by default 10^6 and 10^7, three databases in FOLDER get the same keys of
+17 bytes in drawn order: a filter, a table of the keys, and one of their 64-bit hashes. Each has a
+cache of 64 MB. Keys that are there and others are looked up, all in one statement: with the file in
+the system's cache, and dropped from it. Then batches of 10^6 keys meet the largest table of keys,
+dropped from the cache, by its index alone, and behind a filter. Times are of the clock, so nothing
+should run beside it. It needs 2 GB of the disk.
 """
+import math
 import os
 import random
+import struct
 import sys
 import time
+from pathlib import Path
 
 from conftest import connect
 
-FEW, MANY = 20_000, 10**6
+COLD, WARM, BATCH = 20_000, 200_000, 10**6
 WAYS = {
-    "seen": ("seen USING bloom(items={}, rate='1/1000')", "VIRTUAL ", "item", "k"),
-    "text": ("text(k TEXT PRIMARY KEY) WITHOUT ROWID", "", "k", "k"),
-    "hash": ("hash(h INTEGER PRIMARY KEY)", "", "h", "h"),
+    "filter": ("VIRTUAL TABLE it USING bloom(items={}, rate='1/1000')", "item", "k"),
+    "keys": ("TABLE it(k TEXT PRIMARY KEY) WITHOUT ROWID", "k", "k"),
+    "hashes": ("TABLE it(h INTEGER PRIMARY KEY)", "h", "h"),
 }
+INDEX = "NOT EXISTS(SELECT 1 FROM it WHERE it.k = b.k)"
+SHARES = (0, 1, 50)  # hundredths of a batch that are there
+
+
+def digits(number, count=2):
+    """A number with so many digits."""
+    return f"{number:.{max(0, count - 1 - math.floor(math.log10(number)))}f}"
+
+
+def say(text):
+    print(f"{time.perf_counter() - BEGUN:.0f} s: {text}", file=sys.stderr, flush=True)
 
 
 def open_database(path, keys):
@@ -37,78 +51,113 @@ def drop_from_cache(path):
     os.close(file)
 
 
-def timed(run, count=None):
-    clock, used = time.perf_counter(), time.process_time()
-    result = run()
-    used, clock = time.process_time() - used, time.perf_counter() - clock
-    if count is None:
-        return f"{used:.2f} | {clock:.2f}", result
-    return f"{used * 1e6 / count:.2f} | {clock * 1e6 / count:.2f}", result
+def timed(db, sql, *values):
+    """The seconds that a statement takes, and the first value that it returns."""
+    begun = time.perf_counter()
+    row = db.execute(sql, values).fetchone()
+    return time.perf_counter() - begun, row and row[0]
 
 
-def make_keys(path, items):
-    """The keys, and batches: of some, of others, and with a hundredth or half that are there."""
+def make_keys(path, items, shares):
+    """Tables of all keys, of some to look up, and of batches with these shares."""
+    Path(path).unlink(missing_ok=True)
     draw = random.Random(items)
+    numbers = struct.unpack(f"<{items}q", draw.randbytes(8 * items))
+    others = struct.unpack(f"<{BATCH}q", draw.randbytes(8 * BATCH))
+    tables = {"every": numbers, "present": draw.choices(numbers, k=WARM), "absent": others[:WARM]}
+    for share in shares:
+        there = draw.choices(numbers, k=BATCH)
+        tables[f"batch{share}"] = [
+            there[at] if at % 100 < share else others[at] for at in range(BATCH)
+        ]
     db = connect(path)
-    key = lambda number: (f"k{number:016x}", number - 2**63)
-    numbers = [draw.getrandbits(64) for _ in range(items)]
-    others = [draw.getrandbits(64) for _ in range(MANY)]
-    there = draw.sample(numbers, min(MANY, items))
-    batches = {"every": numbers, "hits": there, "misses": others}
-    for name, share in (("batch1", 100), ("batch50", 2)):
-        batches[name] = [there[i % items] if i % share == 0 else others[i] for i in range(MANY)]
-    for name, some in batches.items():
+    for name, some in tables.items():
         db.execute(f"CREATE TABLE {name}(k TEXT, h INTEGER)")
         db.execute("BEGIN")
-        db.executemany(f"INSERT INTO {name} VALUES(?, ?)", map(key, some))
+        insert = f"INSERT INTO {name} VALUES(printf('k%016x', ?1), ?1)"
+        db.executemany(insert, ((number,) for number in some))
         db.execute("COMMIT")
     db.close()
 
 
-def measure(folder, items):
-    keys = f"{folder}/keys.{items}"
-    make_keys(keys, items)
-    for name, (shape, word, column, of) in WAYS.items():
-        path = f"{folder}/{name}.{items}"
-        db = open_database(path, keys)
-        db.execute(f"CREATE {word}TABLE {shape.format(items)}")
-        insert = f"INSERT OR IGNORE INTO {name}({column}) SELECT {of} FROM keys.every"
-        took, _ = timed(lambda: db.execute(insert))
-        db.close()
-        print(f"{items} {name}: {os.path.getsize(path) / 1e6:.2f} MB, fill {took} s", flush=True)
-        for kind in ("hits", "misses"):
+def measure(path, keys, items, way):
+    """The cells of one column: megabytes, seconds of filling, and microseconds of look-ups."""
+    shape, column, of = WAYS[way]
+    Path(path).unlink(missing_ok=True)
+    db = open_database(path, keys)
+    db.execute(f"CREATE {shape.format(items)}")
+    fill, _ = timed(db, f"INSERT OR IGNORE INTO it({column}) SELECT {of} FROM keys.every")
+    cells = [digits(os.path.getsize(path) / 1e6, 3), digits(fill)]
+    if way == "filter":
+        db.execute("DROP TABLE it")
+        db.execute(f"CREATE {shape.format(items)}")
+        bloom = f"INSERT INTO it(file) SELECT bloom(k, {items}, '1/1000') FROM keys.every"
+        cells[1] += "/" + digits(timed(db, bloom)[0])
+    db.close()
+    for state, count in (("warm", WARM), ("cold", COLD)):
+        times = []
+        for table in ("present", "absent"):
             ask = (
-                f"SELECT count(*) FROM (SELECT * FROM keys.{kind} LIMIT ?) AS b "
-                f"WHERE EXISTS(SELECT 1 FROM {name} WHERE {column} = b.{of})"
+                f"SELECT count(*) FROM (SELECT * FROM keys.{table} LIMIT {count}) AS b "
+                f"WHERE EXISTS(SELECT 1 FROM it WHERE {column} = b.{of})"
             )
-            drop_from_cache(path)
+            Path(path).read_bytes()
+            if state == "cold":
+                drop_from_cache(path)
             db = open_database(path, keys)
-            cold, _ = timed(lambda: db.execute(ask, (FEW,)).fetchone()[0], FEW)
-            db.execute(ask, (MANY,)).fetchone()
-            warm, found = timed(lambda: db.execute(ask, (MANY,)).fetchone()[0], min(MANY, items))
+            if state == "warm":
+                timed(db, ask)
+            took, found = timed(db, ask)
+            assert found == count if table == "present" else found < count / 500, found
+            times.append(digits(took * 1e6 / count))
             db.close()
-            print(f"  {kind}: warm {warm} us, cold {cold} us, {found} found", flush=True)
-    path = f"{folder}/text.{items}"
+        cells.append("/".join(times))
+    say(f"{items} {way}: {', '.join(cells)}")
+    return cells
+
+
+def measure_batches(path, keys, items):
+    """The seconds that each batch takes by the index, and behind a filter."""
     db = open_database(path, keys)
     db.execute(f"CREATE VIRTUAL TABLE seen USING bloom(items={items}, rate='1/1000')")
-    fill = f"INSERT INTO seen(file) SELECT bloom(k, {items}, '1/1000') FROM text"
-    print(f"  fill by file: {timed(lambda: db.execute(fill))[0]} s", flush=True)
+    db.execute(f"INSERT INTO seen(file) SELECT bloom(k, {items}, '1/1000') FROM it")
     db.close()
-    index = "NOT EXISTS(SELECT 1 FROM text WHERE text.k = b.k)"
-    for batch in ("misses", "batch1", "batch50"):
-        for way in (
-            index,
-            f"NOT EXISTS(SELECT 1 FROM seen WHERE item = b.k) OR {index}",
-            f"NOT bloom_in('seen', b.k) OR {index}",
-        ):
+    for share in SHARES:
+        cells, all_new = [], set()
+        for where in (INDEX, f"NOT bloom_in('seen', b.k) OR {INDEX}"):
             drop_from_cache(path)
             db = open_database(path, keys)
-            ask = f"SELECT count(*) FROM keys.{batch} b WHERE {way}"
-            cold, new = timed(lambda: db.execute(ask).fetchone()[0])
-            warm, _ = timed(lambda: db.execute(ask).fetchone()[0])
+            took, new = timed(db, f"SELECT count(*) FROM keys.batch{share} b WHERE {where}")
             db.close()
-            print(f"  {batch} by {way}: cold {cold} s, then {warm} s, {new} new", flush=True)
+            cells.append(digits(took))
+            all_new.add(new)
+        assert len(all_new) == 1, all_new
+        say(f"a batch with {share} %: {', '.join(cells)}")
+        yield cells
 
 
-for count in map(int, sys.argv[2:] or [10**6, 10**7]):
-    measure(sys.argv[1], count)
+def main(folder, counts):
+    columns, heads = [], []
+    for items in counts:
+        keys = f"{folder}/drawn.{items}"
+        make_keys(keys, items, SHARES if items == counts[-1] else ())
+        say(f"{items} keys")
+        columns += [measure(f"{folder}/{way}.{items}", keys, items, way) for way in WAYS]
+        heads += [f"10^{math.log10(items):g}: filter", "keys", "hashes"]
+    index, behind = map("/".join, zip(*measure_batches(f"{folder}/keys.{items}", keys, items)))
+    names = ("MB on disk", "fill, s: by items/by `bloom`")
+    names += ("look-up in memory, µs: present/absent", "look-up from disk, µs")
+    print("| |", " | ".join(heads), "|")
+    print("|---|" + "--:|" * len(heads))
+    for name, *cells in zip(names, *columns):
+        print(f"| {name} | {' | '.join(cells)} |")
+    print(
+        f"\nA batch of 10^6 keys against 10^{math.log10(items):g} took {index} seconds by the index"
+    )
+    print(f"and {behind} behind `bloom_in`, where {'/'.join(map(str, SHARES))} % of it were there.")
+
+
+if __name__ == "__main__":
+    BEGUN = time.perf_counter()
+    main(sys.argv[1], list(map(int, sys.argv[2:])) or [10**6, 10**7])
+    say("all")

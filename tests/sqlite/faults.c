@@ -1,7 +1,8 @@
 /* Tries the extension of SQLite where a request fails: for memory, and for a write to the disk.
  * Each statement of a session runs again and again: first its first request is refused, then its
- * second, until it makes no more. A refusal has to be told as one. What was committed has to stay,
- * and what fails to leave nothing; at the end the filter is that of a session without faults.
+ * second, until it makes no more. A refusal has to be told as one, or the statement returns what it
+ * does without faults. What was committed has to stay, and what fails to leave nothing; at the end
+ * the filter is that of a session without faults.
  *
  * `faults FOLDER` makes its databases there. */
 #include <sqlite3.h>
@@ -65,15 +66,23 @@ static int open_file(sqlite3_vfs *vfs, const char *name, sqlite3_file *file, int
     return code;
 }
 
-/* Runs statements. It returns the code of the first that fails, and prints the first value of a row
- * into a text. */
-static int run(sqlite3 *db, const char *sql, char *text, size_t room) {
+/* Room for the first value of a row, as text. */
+typedef char value[200];
+
+/* Runs statements. It returns the code of the first that fails, and has the value of the last row
+ * if there is one. */
+static int run(sqlite3 *db, const char *sql, value found) {
     sqlite3_stmt *it = NULL;
     int code = SQLITE_OK;
+    found[0] = 0;
     while (code == SQLITE_OK && *sql != 0) {
         code = sqlite3_prepare_v2(db, sql, -1, &it, &sql);
-        while (code == SQLITE_OK && sqlite3_step(it) == SQLITE_ROW)
-            if (text != NULL) snprintf(text, room, "%s", (const char *)sqlite3_column_text(it, 0));
+        while (code == SQLITE_OK && sqlite3_step(it) == SQLITE_ROW) {
+            bool is_null = sqlite3_column_type(it, 0) == SQLITE_NULL;
+            const char *text = (const void *)sqlite3_column_text(it, 0);
+            if (text == NULL && !is_null) code = SQLITE_NOMEM;
+            snprintf(found, sizeof(value), "%s", text == NULL ? "NULL" : text);
+        }
         int ended = sqlite3_finalize(it);
         if (code == SQLITE_OK) code = ended;
     }
@@ -81,8 +90,8 @@ static int run(sqlite3 *db, const char *sql, char *text, size_t room) {
 }
 
 static void want(sqlite3 *db, const char *sql, const char *wanted) {
-    char found[200] = "";
-    int code = run(db, sql, found, sizeof found);
+    value found;
+    int code = run(db, sql, found);
     require(code == SQLITE_OK && strcmp(found, wanted) == 0, wanted, sql,
             code == SQLITE_OK ? found : sqlite3_errmsg(db));
 }
@@ -102,7 +111,7 @@ static const char *const session[] = {
     "INSERT OR IGNORE INTO seen(item) VALUES('a'), ('b')",
     "BEGIN; INSERT INTO seen(item) SELECT value FROM numbers; COMMIT",
     "INSERT INTO seen(file) SELECT bloom('c' || value, 20000, '1/1000') FROM numbers",
-    "SELECT count(*) FROM numbers WHERE EXISTS(SELECT 1 FROM seen WHERE item = value)",
+    "SELECT count(*) FROM numbers JOIN seen ON item = value",
     "SELECT count(*) FROM numbers WHERE bloom_in('seen', 'c' || value)",
     "SELECT bloom_contains(file, 'a') + length(info) FROM seen",
     "SELECT bloom_contains(bloom(value, 20, '1/100', x'000102030405060708090a0b0c0d0e0f'), 1) "
@@ -113,16 +122,19 @@ static const char *const session[] = {
     "DROP TABLE gone; COMMIT",
 };
 
-/* What a session leaves that no fault met. */
-static char left[200];
+/* What each statement of a session returns that no fault meets, and what the session leaves. */
+static value returned[sizeof session / sizeof *session], left;
 static const char leaves[] = "SELECT count(*) || hex(substr(f, 41, 8)) FROM sqlite_schema, "
                              "(SELECT file AS f FROM seen)";
 
 /* Runs a session whose requests of one kind are refused, with steps between those that are. */
 static long run_session(const char *path, long *refused, int wanted, long step) {
     long faults = 0;
+    value found;
     remove(path);
     sqlite3 *db = open_database(path);
+    /* (where each text that the extension reads is converted, for which it needs memory) */
+    if (wanted == SQLITE_NOMEM) want(db, "PRAGMA encoding = 'UTF-16le'", "");
     want(db,
          "CREATE TABLE numbers(value); CREATE TABLE t(k); INSERT INTO numbers "
          "WITH RECURSIVE n(i) AS (SELECT 1 UNION ALL SELECT i + 1 FROM n WHERE i < 99) "
@@ -130,34 +142,38 @@ static long run_session(const char *path, long *refused, int wanted, long step) 
          "");
     for (size_t i = 0; i < sizeof session / sizeof *session; i++) {
         int code = SQLITE_NOMEM;
+        /* (a rename makes thousands of requests, nearly all for SQLite's own ends) */
+        long by = strstr(session[i], "RENAME") != NULL ? 16 * step : step;
         if (i == 1)
             want(db,
                  "CREATE TRIGGER g AFTER INSERT ON t BEGIN "
                  "INSERT INTO seen(item) VALUES('t' || NEW.k); END",
                  "");
-        for (long at = 1; refused != NULL && code != SQLITE_OK; at += step) {
+        for (long at = 1; refused != NULL && code != SQLITE_OK; at += by) {
             /* A fresh connection makes each request anew. */
             sqlite3_close(db);
             db = open_database(path);
             *refused = at;
-            code = run(db, session[i], NULL, 0);
+            code = run(db, session[i], found);
             bool was_refused = *refused == 0;
             *refused = 0;
             require(code == SQLITE_OK || (was_refused && (code & 255) == wanted), "a code",
                     session[i], sqlite3_errmsg(db));
+            require(code != SQLITE_OK || strcmp(found, returned[i]) == 0, returned[i], session[i],
+                    found);
             faults += was_refused;
-            if (sqlite3_get_autocommit(db) == 0) run(db, "ROLLBACK", NULL, 0);
+            if (sqlite3_get_autocommit(db) == 0) run(db, "ROLLBACK", found);
             /* A request may be one that SQLite does without. */
             if (code == SQLITE_OK && was_refused) code = SQLITE_NOMEM;
         }
-        if (refused == NULL) require(run(db, session[i], NULL, 0) == 0, "runs", session[i], "");
+        if (refused == NULL) require(run(db, session[i], returned[i]) == 0, "runs", session[i], "");
     }
     want(db, "PRAGMA integrity_check", "ok");
     want(db,
          "SELECT count(*) FROM numbers WHERE bloom_in('seen', value) "
          "AND bloom_in('seen', 'c' || value) AND bloom_in('seen', 't' || value)",
          "99");
-    if (refused == NULL) require(run(db, leaves, left, sizeof left) == 0, leaves, "", "fails");
+    if (refused == NULL) require(run(db, leaves, left) == 0, leaves, "", "fails");
     want(db, leaves, left);
     sqlite3_close(db);
     return faults;

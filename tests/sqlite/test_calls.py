@@ -1,7 +1,6 @@
 """What statements and functions return and refuse."""
 
 import json
-import math
 import random
 import sqlite3
 import subprocess
@@ -110,6 +109,10 @@ def test_files_are_those_of_the_library(db):
     filter.update(NAMES)
     db.insert(*NAMES)
     assert db.file() == filter.to_bytes()
+    low, high = filter.estimate()
+    rate = float(filter.exact_false_positive_rate()[1])
+    info = json.loads(db.one("SELECT info FROM seen"))
+    assert low <= info["estimate"] <= high and info["rate"] == pytest.approx(rate, rel=1e-5)
     made = db.execute("SELECT bloom(value, 1000, '1/1000') FROM json_each(?)", (json.dumps(NAMES),))
     assert made.fetchone()[0] == filter.to_bytes()
     plain = fastbloom.Filter(1000, "1/1000").to_bytes()
@@ -138,6 +141,8 @@ def test_inserts_tell_what_is_new(db):
     assert db.insert("e") == 1 and db.one("SELECT last_insert_rowid()") == 77
     for word in ("REPLACE", "FAIL", "ABORT", "ROLLBACK"):
         assert db.execute(f"INSERT OR {word} INTO seen VALUES('a')").rowcount == 1
+    # A file isn't left out where all of it is there.
+    assert db.execute("INSERT OR IGNORE INTO seen(file) SELECT file FROM seen").rowcount == 1
 
 
 # What finds 'crab' and 5 alone, among rows of which the others are 'no' and NULL.
@@ -202,6 +207,8 @@ REFUSED = {
         "SELECT bloom_contains(5, 1)",
         "SELECT bloom_contains(x'', 1)",
         "SELECT bloom_contains(zeroblob(63), 1)",
+        "SELECT bloom_contains(substr(file, 1, 63), 1) FROM seen",
+        "SELECT bloom_contains(CAST(file AS TEXT), 1) FROM seen",
     ],
     "the file is cut": [
         "SELECT bloom_contains(substr(file, 1, length(file) - 1), 1) FROM seen",
@@ -258,7 +265,16 @@ REFUSED = {
         f"{BLOOM}(items={2**63 - 1}, rate='1/10')",
         f"SELECT bloom(1, {2**63 - 1}, '1/10')",
     ],
-    "more than 64 GiB": [f"{BLOOM}(items={10**12}, rate='1/10')"],
+    "more than 64 GiB": [
+        f"{BLOOM}(items={10**12}, rate='1/10')",
+        f"SELECT bloom(1, {10**12}, '1/10')",
+    ],
+    "too many words": [
+        "SELECT bloom_contains(CAST(substr(file, 1, 16) || x'0800000002000000' "
+        "|| substr(file, 25) AS BLOB), 1) FROM seen",
+    ],
+    "table t already exists": ["CREATE VIRTUAL TABLE t USING bloom(items=9, rate='1/9')"],
+    "may not be used as a window function": ["SELECT bloom(k, 9, '1/9') OVER () FROM t"],
     "no such table": ["SELECT bloom_in('none', 1)", "SELECT bloom_in('none.seen', 1)"],
     "no such column": ["SELECT bloom_in('t', 1)"],
     "no more rows": ["SELECT bloom_in('f', 1)"],
@@ -289,6 +305,21 @@ def test_a_file_that_differs_by_row_is_checked_in_each(db):
     changed = "CAST(substr(file, 1, 99) || 'x' || substr(file, 101) AS BLOB)"
     db.execute(f"INSERT INTO files SELECT 1, {changed} FROM files")
     assert db.refuses("the seal is wrong", query)
+    db.execute(f"CREATE TABLE other AS SELECT {changed} AS file FROM seen")
+    assert db.refuses("the seal is wrong", "SELECT bloom_in('other', 'in')")
+
+
+def test_files_that_others_may_make(db):
+    """A file without a seal, and one with as many hashes as are allowed."""
+    db.insert("in")
+    unsealed = db.file()[:40] + bytes(8) + db.file()[48:]
+    db.create("other")
+    db.execute("INSERT INTO other(file) VALUES(?)", (unsealed,))
+    assert db.file("other") == db.file() and db.one("SELECT bloom_contains(?, 'in')", unsealed) == 1
+    model = MODEL.Blocked(1, 64)
+    model.insert(model_hash(MODEL, b"in"))
+    query = "SELECT bloom_contains(?1, 'in'), bloom_contains(?1, 'out')"
+    assert db.execute(query, (model_file(MODEL, model),)).fetchone() == (1, 0)
 
 
 def test_info_tells_items_estimate_and_rate():
@@ -314,30 +345,39 @@ def test_info_tells_items_estimate_and_rate():
         assert info["rate"] == pytest.approx(rate, rel=1e-5)
     false = sum(db.has(f"no{number}") for number in range(20000))
     assert abs(false / 20000 - rate) < 0.2 * rate
-    # A line whose bits are all set, told as one that lacks a bit.
+    # One item, of which some positions are the same.
+    for item in range(50):
+        db.create("one", items=1)
+        db.insert(item, into="one")
+        assert json.loads(db.one("SELECT info FROM one"))["estimate"] == 1
+        db.execute("DROP TABLE one")
+    # Each bit is set.
     db.create("full", items=1)
     assert db.insert(*range(5000), into="full") > 100
-    hashes = int.from_bytes(db.file("full")[8:16], "little")
-    draws = math.log(1 / 512) / math.log(511 / 512)
-    assert json.loads(db.one("SELECT info FROM full")) == {
-        "items": 1,
-        "estimate": pytest.approx(draws / hashes, abs=1),
-        "rate": 1,
-    }
+    assert json.loads(db.one("SELECT info FROM full")) == {"items": 1, "estimate": None, "rate": 1}
     db.close()
+
+
+def test_rows_about_the_filter(db):
+    db.insert("crab")
+    assert db.execute("SELECT info FROM seen WHERE info = 'crab'").fetchall() == []
+    for where in ("item = 'crab'", "info ->> 'items' = 1000", "file NOT NULL"):
+        assert db.execute(f"SELECT info ->> 'items' FROM seen WHERE {where}").fetchall() == [
+            (1000,)
+        ]
+    assert db.execute("SELECT info FROM seen WHERE item = 'no'").fetchall() == []
 
 
 def test_the_rate_is_met():
     db = connect()
     db.create(items=10**5)
-    db.insert(*range(10**5))
-    assert all(db.has(item) for item in range(10**5))
-    false = (
-        db.one("SELECT count(*) FROM generate WHERE bloom_in('seen', n)")
-        if False
-        else sum(db.has(-number) for number in range(1, 10**5))
-    )
-    assert 50 < false < 130
+    db.execute("CREATE TABLE t(n)")
+    db.executemany("INSERT INTO t VALUES(?)", ((number,) for number in range(1, 10**5 + 1)))
+    db.execute("INSERT INTO seen(item) SELECT n FROM t")
+    for way in ("bloom_in('seen', {})", "EXISTS(SELECT 1 FROM seen WHERE item = {})"):
+        query = f"SELECT sum({way.format('n')}), sum({way.format('-n')}) FROM t"
+        found, false = db.execute(query).fetchone()
+        assert found == 10**5 and 50 < false < 130
     db.close()
 
 
@@ -364,6 +404,19 @@ def test_random_keys_differ(tmp_path):
 def test_arguments_in_any_order_and_case(db):
     db.execute('CREATE VIRTUAL TABLE made USING bloom( RATE = "1/1000" , Items=\'1000\' )')
     assert db.file("made") == db.file()
+    db.execute(f"CREATE VIRTUAL TABLE keyed USING bloom(Key='{KEY.hex()}', items=9, rate=1/9)")
+    assert db.file("keyed")[24:40] == KEY
+
+
+def test_a_name_that_is_taken(db):
+    db.execute("CREATE TABLE made_data(k)")
+    db.execute("INSERT INTO made_data VALUES(7)")
+    assert db.refuses('table "made_data" already exists', f"{BLOOM}(items=9, rate='1/9')")
+    assert db.one("SELECT k FROM made_data") == 7
+    assert db.one("SELECT count(*) FROM sqlite_schema") == 3
+    db.execute("DROP TABLE made_data")
+    db.execute(f"{BLOOM}(items=9, rate='1/9')")
+    assert db.insert("crab", into="made") == 1
 
 
 def test_a_filter_larger_than_a_value_may_be():

@@ -52,6 +52,18 @@ def test_what_is_undone_leaves_nothing(db, way, sql, inside, gone):
     assert db.has("new")
 
 
+def test_savepoints_are_undone_one_by_one(db):
+    db.run("BEGIN; INSERT INTO seen VALUES('a'); SAVEPOINT one; INSERT INTO seen VALUES('b')")
+    db.run("SAVEPOINT two; INSERT INTO seen VALUES('c'); ROLLBACK TO two")
+    assert found(db, "abc") == 2 and not db.has("c")
+    db.run(
+        "INSERT INTO seen VALUES('d'); RELEASE two; ROLLBACK TO one; INSERT INTO seen VALUES('e')"
+    )
+    assert found(db, "ae") == 2 and found(db, "bcd") == 0
+    db.execute("COMMIT")
+    assert found(db, "ae") == 2 and found(db, "bcd") == 0
+
+
 def test_a_rename_that_is_undone(db):
     db.insert("old")
     db.run("BEGIN; ALTER TABLE seen RENAME TO \"we \"\"ird\"; ")
@@ -74,6 +86,14 @@ def test_a_statement_that_fails_midway_is_undone(db):
         assert db.refuses("CHECK", "INSERT INTO t VALUES('a', 1), ('b', 2), ('c', 3)")
         db.execute(end)
         assert found(db, "abc") == 0
+    for values in (
+        "VALUES('a'), (abs(-9223372036854775807 - 1))",
+        "SELECT 'b' UNION SELECT zeroblob(2e9)",
+    ):
+        db.execute("BEGIN")
+        assert db.refuses("", f"INSERT INTO seen(item) {values}")
+        db.execute("COMMIT")
+        assert found(db, "ab") == 0
     db.execute("INSERT OR IGNORE INTO t VALUES('d', 1), ('e', 9), ('f', 2), ('d', 1)")
     assert db.has("d") and db.has("f") and not db.has("e")
     # What the filter leaves out isn't left out of the table.
@@ -140,6 +160,13 @@ def test_attached_databases(tmp_path, db):
     db.create("o.more")
     assert db.insert("b", into="more") == 1
     assert db.one("SELECT count(*) FROM o.sqlite_schema WHERE name = 'more_data'") == 1
+    db.create("temp.seen", items=50)
+    assert (
+        db.insert("c", into="seen") == 1
+        and db.has("c", "temp.seen")
+        and not db.has("c", "main.seen")
+    )
+    assert db.one("SELECT bloom_in('temp.seen', 'c') + bloom_in('seen', 'c')") == 2
 
 
 def test_copies(tmp_path):
@@ -266,7 +293,16 @@ def test_one_row_that_is_missing(tmp_path):
             assert "row 2 of seen_data is damaged" in str(error)
             refused += 1
     assert 0.1 < refused / len(ITEMS) < 0.5
-    assert db.refuses("row 2 of", "INSERT INTO seen(file) SELECT bloom(1, 10000, '1/1000')")
+    # A file is refused whole, and nothing of it is kept.
+    other = connect()
+    other.create(items=10000)
+    other.insert(*range(1000))
+    rows = "SELECT group_concat(hex(bits)) FROM seen_data"
+    before = db.one(rows)
+    db.execute("BEGIN")
+    assert db.refuses("row 2 of", "INSERT INTO seen(file) VALUES(?)", other.file())
+    db.execute("COMMIT")
+    assert db.one(rows) == before
 
 
 WRITER = """

@@ -137,7 +137,7 @@ all_are_in-one : all_are_in_lines 1 2 (0 ∷ 1 ∷ []) (content (8192 ∷ 0 ∷ 
 unfolding content are_in chain
 all_are_in-one = refl
 
--- no bit is told below the first
+-- no bit is reported below the first
 no-bit : (F : ℕ → Bool) (p : ℕ) → content (0 ∷ []) p ≡ (nat_lt p 0 && F p)
 no-bit F p = content-zeros 1 p ∙ ap (λ b. b && F p) (sym (le-ltb p 0 (omega arith)))
 

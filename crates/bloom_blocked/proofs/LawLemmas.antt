@@ -1,19 +1,19 @@
 -- The laws of blocked filters.
-use Rattle.std.proofs.Common.{◌≡◌, ℕ, ◌/◌, true, ◌&&◌, List, [], ◌∷◌, length, sym, ◌∙◌, ap, subst, inl, inr, arith}
+use Rattle.std.proofs.Common.{◌≡◌, ℕ, ◌/◌, Bool, true, ◌&&◌, ◌||◌, List, [], ◌∷◌, length, sym, ◌∙◌, ap, subst, inl, inr, arith}
 use Rattle.std.proofs.lemmas.Bool.{or_cases, or_left, or_right}
+use Rattle.std.proofs.Math.Bool.{or-false}
 use Rattle.bloom_parts.specs.Content.{content}
 use Rattle.bloom_parts.specs.Places.{IsPart}
 use Rattle.bloom_parts.proofs.PublishedLemmas.{are_in-off}
 use Rattle.bloom_parts.specs.Keys.{key_of}
 use Rattle.bloom_plain.specs.Data.{DefaultFilter}
 use Rattle.bloom_plain.specs.Filter.{Filter, SameShape}
-use Rattle.bloom_blocked.specs.Lines.{line_of, inner_of, in_line, are_in_line}
-use Rattle.bloom_blocked.specs.Blocked.{num_lines_of, contains_in_line, InsertsAllInLines}
+use Rattle.bloom_blocked.specs.Lines.{line_of, inner_of, in_line, line_positions, are_in_line}
+use Rattle.bloom_blocked.specs.Blocked.{num_lines_of, contains_in_line, InsertsInLine, InsertsAllInLines}
 use Rattle.bloom_blocked.specs.BlockedData.{AnswerAlikeInLines, LineDataLaw}
 use Rattle.bloom_blocked.specs.BlockedLaws.{InsertInLineLaw, KeptByInsertInLineLaw, KeptByInsertsInLinesLaw, KeptByUnionOfLinesLaw, UnionOfLinesLaw, IntersectionOfLinesLaw, ClearOfLinesLaw, InsertsOneByOne, OneByOneLaw}
 use Rattle.bloom_blocked.proofs.PositionLemmas.{line-greater, line-inserted, line-both}
 use Rattle.bloom_blocked.specs.InsertLaws.{inserts_all-none, inserts_all-join}
-use Rattle.bloom_blocked.proofs.FilterLemmas.{inserts_all-one}
 
 -- a look-up in a filter of the same shape is the look-up with the first filter's numbers
 contains-shape : {S : Type 0} (old new : Filter S) (hash : ℕ) → SameShape old new
@@ -92,12 +92,24 @@ clear_law S old new hash shape did =
     shape.some_hashes
     (did.bits _)
 
+-- one insert inserts a list of one
+pub inserts_all_one : {S : Type 0} (old new : Filter S) (hash : ℕ) (reply : Bool)
+    → InsertsInLine old hash new reply → InsertsAllInLines old (hash ∷ []) new
+inserts_all_one old new hash reply did = record {
+  bits = λ p.
+      did.bits p
+      ∙ ap (λ b. content old.words p || b)
+      (sym (or-false (line_positions (num_lines_of old) old.hashes hash p)));
+  shape = did.shape;
+  hasher = did.hasher;
+}
+
 -- single inserts, one after the other, insert all hashes of the list
 all-of-single : {S : Type 0} (old new : Filter S) (hashes : List ℕ)
     → InsertsOneByOne old hashes new → InsertsAllInLines old hashes new
 all-of-single old new [] same = subst (InsertsAllInLines old []) same (inserts_all-none old)
 all-of-single old new (hash ∷ hashes) (mid, reply, first, later) =
-    inserts_all-join old mid new (hash ∷ []) hashes (inserts_all-one old mid hash reply first)
+    inserts_all-join old mid new (hash ∷ []) hashes (inserts_all_one old mid hash reply first)
     (all-of-single mid new hashes later)
 
 -- both set the positions of all hashes

@@ -6,7 +6,6 @@ mod BlockedMadeFacts
 mod BlockedSizingFacts
 mod BuilderLemmas
 mod CarriedLemmas
-mod FilterLemmas
 pub mod LawLemmas
 mod LineCourseFacts
 mod LineCourseLaws

@@ -99,9 +99,9 @@ module _ (name first last : ℕ) where
       cc
 
   -- a step that found the position set makes no insert that returns false
-  insert-told : (is : IsMadeAsScript line 1 (Insert 0) false) → is.steps ≡ sets 1 false ∷ [] → ⊥
+  insert-tells : (is : IsMadeAsScript line 1 (Insert 0) false) → is.steps ≡ sets 1 false ∷ [] → ⊥
   unfolding positions chain
-  insert-told is steps = by is.script.0 is.script.1 (sym is.script.2 ∙ steps)
+  insert-tells is steps = by is.script.0 is.script.1 (sym is.script.2 ∙ steps)
     where
       by : (inside : List Taken) → SetsByWords zeroth inside
           → map (taken_from (8 * line_of 1 0)) inside ≡ sets 1 false ∷ [] → ⊥

@@ -115,8 +115,8 @@ after-next lines k A B C hashes i within before step p =
     ∙ ap (λ b. A p || b)
     (sym (list_any-append on first last) ∙ ap (list_any on) (sym (take_more hashes i 0 within)))
 
--- one more hash is told: its bit is whether it wasn't contained after those before it
-pub told-next : (lines k : ℕ) (A B : ℕ → Bool) (hashes : List ℕ) (i fresh mask : ℕ) (was : Bool)
+-- one more hash is reported: its bit is whether it wasn't contained after those before it
+pub tells-next : (lines k : ℕ) (A B : ℕ → Bool) (hashes : List ℕ) (i fresh mask : ℕ) (was : Bool)
     → i < 64
     → ((p : ℕ) → content (fresh ∷ []) p ≡ (nat_lt p i && not (are_in_line lines k
     (slice_index hashes p) (after_first lines k A hashes p))))
@@ -125,7 +125,7 @@ pub told-next : (lines k : ℕ) (A B : ℕ → Bool) (hashes : List ℕ) (i fres
     → mask ≡ (if not was then 2 ^ i else 0)
     → (p : ℕ) → content (bit_or fresh mask ∷ []) p ≡ (nat_lt p (i + 1) && not (are_in_line lines k
     (slice_index hashes p) (after_first lines k A hashes p)))
-told-next lines k A B hashes i fresh mask was small before holds told is =
+tells-next lines k A B hashes i fresh mask was small before holds told is =
     let F : ℕ → Bool =
     λ p. not (are_in_line lines k (slice_index hashes p) (after_first lines k A hashes p)) in
     let same : was ≡ are_in_line lines k (slice_index hashes i) (after_first lines k A hashes i) =
@@ -152,7 +152,7 @@ module _ (hashes words : List ℕ) (turn end v lines k : ℕ) (A : ℕ → Bool)
       (found-part hashes (64 * turn) n v fits lines k A told)
 
   -- one more word of bits, which tell of 64 inserts or fewer
-  pub told-turn : (B : ℕ → Bool)
+  pub tells-turn : (B : ℕ → Bool)
       → ((p : ℕ) → content words p ≡ (nat_lt p (64 * turn) && (nat_lt p (length hashes)
       && not (are_in_line lines k (slice_index hashes p) (after_first lines k A hashes p)))))
       → ((p : ℕ) → B p ≡ after_first lines k A hashes (64 * turn) p)
@@ -160,7 +160,7 @@ module _ (hashes words : List ℕ) (turn end v lines k : ℕ) (A : ℕ → Bool)
       → (p : ℕ) → content (set words turn v) p
       ≡ (nat_lt p (64 * (turn + 1)) && (nat_lt p (length hashes)
       && not (are_in_line lines k (slice_index hashes p) (after_first lines k A hashes p))))
-  told-turn B before first told =
+  tells-turn B before first told =
       let n = end - 64 * turn in
       let fits : 64 * turn + n ≤ length hashes = omega (arith, ended, more) in
       bits-word

@@ -15,10 +15,10 @@ ghost use Rattle.bloom_blocked.specs.LineRefusals.{lines_refusal};
 
 mod rate;
 
+use crate::by_hash::LINE;
 use crate::error::LinesError;
 use crate::filter::BlockedBloomFilter;
 use crate::sizing::{num_words_in_lines, optimal_hashes_in_lines};
-use crate::words::LINE;
 use bloom_parts::bit_vector::MAX_WORDS;
 use bloom_parts::error::FilterError;
 use bloom_parts::hasher::DefaultHasher;

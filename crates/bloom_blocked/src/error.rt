@@ -4,7 +4,7 @@ ghost use Rattle.bloom_blocked.specs.LineRefusals.{lines_code_of};
 
 use thiserror::Error;
 
-/// Why words are no lines of a filter. Of several reasons the first is told.
+/// Why words are no lines of a filter. Of several reasons the first is reported.
 #[derive(Clone, Copy, Debug, PartialEq, Eq, Drop, Error)]
 pub enum LinesError {
     /// No word was given.

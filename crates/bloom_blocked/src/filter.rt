@@ -13,7 +13,7 @@ mod items;
 mod sets;
 
 use crate::rates::false_pos_of_lines;
-use crate::{many, words};
+use crate::{by_hash, many};
 use bloom_parts::hasher::DefaultHasher;
 use bloom_parts::math::Bracket;
 use bloom_parts::slices;
@@ -145,7 +145,7 @@ impl<S> BlockedBloomFilter<S> {
     {
         // It is 1 at least, which the compiler sees in this form alone.
         let num_hashes = self.num_hashes.max(1);
-        words::insert_hash(self.words.as_mut_slice(), num_hashes, hash)
+        by_hash::insert_hash(self.words.as_mut_slice(), num_hashes, hash)
     }
 
     /// Whether all positions of a hash are set. True may be a false positive. False means that the
@@ -154,7 +154,7 @@ impl<S> BlockedBloomFilter<S> {
     pub fn contains_hash(&self, hash: u64) -> bool
         ensures found { result ≡ contains_in_line self.now hash }
     {
-        words::contains_hash(self.words.as_slice(), self.num_hashes, hash)
+        by_hash::contains_hash(self.words.as_slice(), self.num_hashes, hash)
     }
 
     /// Inserts hashes, in order.

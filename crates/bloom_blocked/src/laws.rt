@@ -12,11 +12,13 @@ pub fn positions_of_hash()
 {}
 
 /// The test of a hash is whether its positions are a part of the set.
+#[tactic(auto, using(crate::proofs::PositionLemmas::line_subset_law))]
 pub fn test_of_hash()
     ensures { LineSubsetLaw }
 {}
 
 /// An insert returns what a look-up would have returned, and afterwards its hash is contained.
+#[tactic(auto, using(crate::proofs::LawLemmas::insert_law))]
 pub fn insert_answers_contains<S>()
     ensures { InsertInLineLaw S }
 {}
@@ -29,6 +31,7 @@ pub fn contained_stays<S>()
 {}
 
 /// After a union every hash is contained that either filter contained. Other hashes may be too.
+#[tactic(auto, using(crate::proofs::LawLemmas::union_law))]
 pub fn union_contains<S>()
     ensures { UnionOfLinesLaw S }
 {}
@@ -44,22 +47,26 @@ pub fn interleavings_in_lines()
 {}
 
 /// After an intersection exactly the hashes are contained that both filters contained.
+#[tactic(auto, using(crate::proofs::LawLemmas::intersection_law))]
 pub fn intersection_contains<S>()
     ensures { IntersectionOfLinesLaw S }
 {}
 
 /// After a clear no hash is contained.
+#[tactic(auto, using(crate::proofs::LawLemmas::clear_law))]
 pub fn clear_contains_nothing<S>()
     ensures { ClearOfLinesLaw S }
 {}
 
 /// Many hashes inserted at once make the filter that inserts of each, one after the other, make.
+#[tactic(auto, using(crate::proofs::LawLemmas::one_by_one_law))]
 pub fn many_are_as_one_by_one<S>()
     ensures { OneByOneLaw S }
 {}
 
 /// A filter that is made of another's data has its words, number of hashes and key, and contains
 /// the same hashes.
+#[tactic(auto, using(crate::proofs::LawLemmas::line_data_law))]
 pub fn data_answer_alike()
     ensures { LineDataLaw }
 {}

@@ -6,8 +6,8 @@ ghost use Rattle.bloom_steps.specs.LiveSteps.{EachInTurn};
 ghost use Rattle.bloom_blocked.specs.Lines.{inner_of};
 ghost use Rattle.bloom_blocked.specs.LineSteps.{LooksInLine, SetsInLine, SetsInTurn, WasSetInLine, WereSetInLines};
 
+use crate::by_hash::{LINE, inner, line_start};
 use crate::many::{LINES_TOGETHER, WORDS_TO_READ_AHEAD};
-use crate::words::{LINE, inner, line_start};
 use bloom_parts::bit_vector::{Loads, Turn, TurnWords};
 use bloom_parts::slices::{insert_in_few_words, with_range};
 use bloom_steps::{Call, SpanStore, drive, set_masks};

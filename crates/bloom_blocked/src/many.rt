@@ -11,7 +11,7 @@ ghost use Rattle.bloom_blocked.specs.Many.{positions_of_all, all_are_in_lines, T
 
 mod telling;
 
-use crate::words::{LINE, contains_hash, inner, line_start};
+use crate::by_hash::{LINE, contains_hash, inner, line_start};
 use bloom_parts::bit_vector::word_and_mask_of_hash;
 use bloom_parts::hasher::DoubleHasher;
 use bloom_parts::slices::{clear, contains_by_count};
@@ -163,25 +163,23 @@ fn mask_where(set: bool, i: usize) -> u64
     u64::from(set) << i
 }
 
-// Bit i is whether all positions of hash i are set. The look-ups branch on no word.
+// Whether all positions of a hash are set. The look-up stops at the first that is clear, or else it
+// branches on no word.
 #[inline(always)]
-fn found_bits(words: &[u64], num_hashes: u32, hashes: &[u64]) -> u64
-    requires words { 8 ≤ length words.now }
-    requires few { length hashes.now ≤ 64 }
-    ensures { TellsFound (length words.now / 8) num_hashes (content words.now) hashes.now
-        (result ∷ []) }
+fn contains_either_way(words: &[u64], num_hashes: u32, hash: u64, stops: bool) -> bool
+    requires { 8 ≤ length words.now }
+    ensures { result ≡ are_in_line (length words.now / 8) num_hashes hash (content words.now) }
 {
-    let mut found: u64 = 0;
-    let mut i: usize = 0;
-    'looks: for hash in hashes {
-        found |= mask_where(contains_branchless(words, num_hashes, *hash), i);
-        i += 1;
+    if stops {
+        contains_hash(words, num_hashes, hash)
+    } else {
+        contains_branchless(words, num_hashes, hash)
     }
-    found
 }
 
-// Bit i is whether all positions of hash i are set. The look-ups stop at the first that is clear.
-fn found_bits_by_stops(words: &[u64], num_hashes: u32, hashes: &[u64]) -> u64
+// Bit i is whether all positions of hash i are set.
+#[inline(always)]
+fn found_bits(words: &[u64], num_hashes: u32, hashes: &[u64], stops: bool) -> u64
     requires words { 8 ≤ length words.now }
     requires few { length hashes.now ≤ 64 }
     ensures { TellsFound (length words.now / 8) num_hashes (content words.now) hashes.now
@@ -190,7 +188,7 @@ fn found_bits_by_stops(words: &[u64], num_hashes: u32, hashes: &[u64]) -> u64
     let mut found: u64 = 0;
     let mut i: usize = 0;
     'looks: for hash in hashes {
-        found |= mask_where(contains_hash(words, num_hashes, *hash), i);
+        found |= mask_where(contains_either_way(words, num_hashes, *hash, stops), i);
         i += 1;
     }
     found
@@ -205,9 +203,9 @@ fn find_word(words: &[u64], num_hashes: u32, hashes: &[u64]) -> u64
         (result ∷ []) }
 {
     if words.len() >= WORDS_TO_READ_AHEAD && ends_are_full(words, hashes) {
-        found_bits_by_stops(words, num_hashes, hashes)
+        found_bits(words, num_hashes, hashes, true)
     } else {
-        found_bits(words, num_hashes, hashes)
+        found_bits(words, num_hashes, hashes, false)
     }
 }
 

@@ -7,7 +7,7 @@ ghost use Rattle.bloom_parts.specs.Counts.{count_on};
 ghost use Rattle.bloom_parts.specs.FalsePositives.{BoundsPositives};
 ghost use Rattle.bloom_blocked.specs.LineRates.{BoundsLines, BoundsLoadedLines, LineWasLoaded, line_words};
 
-use crate::words::LINE;
+use crate::by_hash::LINE;
 use bloom_parts::bit_vector::TurnWords;
 use bloom_parts::math::{Bracket, false_pos_of_ones};
 use bloom_parts::slices;

@@ -4,7 +4,7 @@ ghost use Rattle.std.specs.Result.{result_err};
 ghost use Rattle.bloom_parts.specs.Rates.{num_of, den_of};
 ghost use Rattle.bloom_blocked.specs.BlockedSizing.{IsSizeInLines, IsTooLargeInLines, hashes_in_lines, hundredths_more, line_words_for, line_size_refusal};
 
-use crate::words::LINE;
+use crate::by_hash::LINE;
 use bloom_parts::bit_vector::MAX_WORDS;
 use bloom_parts::error::FilterError;
 use bloom_parts::math::{Rate, optimal_size};

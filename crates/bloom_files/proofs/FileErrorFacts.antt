@@ -1,5 +1,5 @@
--- The number of each refusal, and which refusals may be told of a file: cases that hold, and cases
--- that nearly do.
+-- The number of each refusal, and which refusals may be reported about a file: cases that hold, and
+-- cases that nearly do.
 use Rattle.std.proofs.Common.{◌≡◌, [], Some, None, refl, inl, inr}
 use Rattle.std.specs.declared.io.ErrorKind.TheVariants as kind
 use Rattle.bloom_parts.specs.Sip.{sip, start, round, absorb, answer, whole_words, rest}
@@ -53,7 +53,7 @@ code-blocked = refl
 code-not_blocked : file_code_of NotBlocked ≡ 18
 code-not_blocked = refl
 
--- a failed read is told by any kind, and no other error is one
+-- a failed read is reported by any kind, and no other error is one
 input-read : IsInput (Some (Input kind.BrokenPipe))
 input-read = (kind.BrokenPipe, refl)
 
@@ -63,7 +63,7 @@ input-cut is = cc (is.1)
 input-none : IsInput None → ⊥
 input-none is = cc (is.1)
 
--- the refusal is told, and out of memory only where there is none
+-- the refusal is reported, and out of memory only where there is none
 refused-cut : IsRefusedIn Whole first (Some Cut)
 unfolding whole_words
 refused-cut = inl refl
@@ -101,7 +101,7 @@ read-memory = inr (inl (refl, refl))
 read-input : IsReadIn Whole [] (Some (Input kind.BrokenPipe))
 read-input = inr (inr (kind.BrokenPipe, refl))
 
--- what is no filter is told before out of memory, and a cut file isn't accepted
+-- what is no filter is reported before out of memory, and a cut file isn't accepted
 read-no_filter : IsReadIn Whole [] (Some Memory) → ⊥
 unfolding whole_words
 read-no_filter is = elim is [

@@ -42,7 +42,7 @@ decided-first is = elim is [ inl part ↦ omega (arith, part) | inr whole ↦ cc
 gives-head : GivesUndecided (Some (head ++ its_word)) (Some its_word)
 gives-head = record { given = head; taken = refl; undecided = undecided-head }
 
--- a read that failed behind a byte more isn't told
+-- a read that failed behind a byte more isn't reported
 gives-long : GivesUndecided (Some (head ++ its_word ++ 0 ∷ [])) (Some []) → ⊥
 gives-long is =
     decided-long (subst IsUndecided (sym (is.taken ∙ append-nil is.given)) is.undecided)
@@ -58,7 +58,7 @@ early-cut kind is = cc
 within-cut : FailsWithin 0 (Some other) (Some []) Cut
 within-cut kind is = cc
 
--- a failed read is told neither behind a whole bad head, nor once all that was asked for came
+-- a failed read is reported neither behind a whole bad head, nor once all that was asked for came
 early-first : FailsEarly (Some other) (Some []) (Input kind.BrokenPipe) → ⊥
 early-first fails =
     let is = fails kind.BrokenPipe refl in

@@ -123,7 +123,7 @@ module _ (layout : Layout) (bytes : List ℕ) (head : Head) (words : List ℕ)
       ap (refusal_in layout) is.is ∙ refusal_in-head start (bytes_of words) size layout right
       ∙ (λ i. option_or (good i) (option_or (none i) (sealed i)))
 
-  -- what its end is refused for, where another layout is read, is told
+  -- what its end is refused for, where another layout is read, is reported
   refused-end : (other : Layout) (error : FileError) → layout_refusal other start ≡ Some error
       → refusal_in other bytes ≡ Some error
   refused-end other error told =

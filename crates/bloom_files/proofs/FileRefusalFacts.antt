@@ -29,7 +29,7 @@ size_refusal-long : size_refusal (worked ++ 0 ∷ []) ≡ Some TooLong
 unfolding whole_words
 size_refusal-long = refl
 
--- a head that ends before its last byte is cut, also where no words are told
+-- a head that ends before its last byte is cut, also where no words are reported
 size_refusal-part : size_refusal (low 0 ++ low 0 ++ low 0) ≡ Some Cut
 unfolding whole_words
 size_refusal-part = refl
@@ -58,7 +58,7 @@ reserved_refusal-worked : reserved_refusal worked ≡ None
 unfolding whole_words
 reserved_refusal-worked = refl
 
--- the first of them may be the number of lines, which is told by itself, and no greater one
+-- the first of them may be the number of lines, which is reported by itself, and no greater one
 reserved_refusal-lines : reserved_refusal (head_with its_seal (low 1) (low 0)) ≡ Some Blocked
 unfolding whole_words
 reserved_refusal-lines = refl
@@ -71,7 +71,7 @@ reserved_refusal-eighth : reserved_refusal (head_with its_seal high (low 0)) ≡
 unfolding whole_words
 reserved_refusal-eighth = refl
 
--- the last of them may not be another, and that is told before the number of lines
+-- the last of them may not be another, and that is reported before the number of lines
 reserved_refusal-both : reserved_refusal (head_with its_seal (low 1) (low 1)) ≡ Some Reserved
 unfolding whole_words
 reserved_refusal-both = refl
@@ -188,7 +188,7 @@ file_refusal-seal : refusal_in Whole (head_with (low 1) (low 0) (low 0) ++ its_w
 unfolding sip start round absorb answer whole_words rest
 file_refusal-seal = refl
 
--- of two reasons the first is told: a wrong number before a size
+-- of two reasons the first is reported: a wrong number before a size
 file_refusal-hashes_and_cut : refusal_in Whole (first ++ low 0 ++ low 1) ≡ Some HashCount
 unfolding sip start round absorb answer whole_words rest
 file_refusal-hashes_and_cut = refl

@@ -50,7 +50,7 @@ head_refusal-version_one : head_refusal (102 ∷ 98 ∷ 108 ∷ 111 ∷ 111 ∷ 
 unfolding whole_words
 head_refusal-version_one = refl
 
--- bytes that are no filter are told before another version
+-- bytes that are no filter are reported before another version
 head_refusal-mark_first : head_refusal (102 ∷ 98 ∷ 108 ∷ 111 ∷ 111 ∷ 109 ∷ 1 ∷ 50 ∷ [])
     ≡ Some NotAFilter
 unfolding whole_words
@@ -79,7 +79,7 @@ head_refusal-many_hashes : head_refusal (first ++ 0 ∷ 0 ∷ 0 ∷ 0 ∷ 1 ∷ 
 unfolding whole_words
 head_refusal-many_hashes = refl
 
--- another version is told before a wrong number of hashes
+-- another version is reported before a wrong number of hashes
 head_refusal-version_first : head_refusal (102 ∷ 98 ∷ 108 ∷ 111 ∷ 111 ∷ 109 ∷ 0 ∷ 50 ∷ low 0)
     ≡ Some Version
 unfolding whole_words
@@ -110,7 +110,7 @@ head_refusal-many_words : head_refusal (first ++ low 3 ++ 0 ∷ 0 ∷ 0 ∷ 0 �
 unfolding whole_words
 head_refusal-many_words = refl
 
--- a wrong number of hashes is told before no words and before too many
+-- a wrong number of hashes is reported before no words and before too many
 head_refusal-hashes_first : head_refusal (first ++ low 0 ++ low 0) ≡ Some HashCount
 unfolding whole_words
 head_refusal-hashes_first = refl
@@ -148,7 +148,7 @@ layout-two : head_refusal_in Lines (line_start 8 line_seal (low 2) (low 0)) ≡ 
 unfolding whole_words
 layout-two = refl
 
--- no words are told before a layout that isn't read
+-- no words are reported before a layout that isn't read
 layout-no_words : head_refusal_in Lines (line_start 0 line_seal (low 0) (low 0)) ≡ Some EmptyWords
 unfolding whole_words
 layout-no_words = refl

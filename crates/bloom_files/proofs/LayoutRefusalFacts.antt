@@ -1,11 +1,11 @@
--- Why a file is refused where lines are read, and which of two reasons is told. The worked files
--- are those of `LayoutFacts` and `FileFacts`.
+-- Why a file is refused where lines are read, and which of two reasons is reported. The worked
+-- files are those of `LayoutFacts` and `FileFacts`.
 use Rattle.std.proofs.Common.{◌≡◌, ℕ, List, [], ◌∷◌, ◌++◌, None, Some, refl, inl, inr}
 use Rattle.std.specs.declared.io.ErrorKind.TheVariants as kind
 use Rattle.bloom_parts.specs.Sip.{sip, start, round, absorb, answer, whole_words, rest}
 use Rattle.bloom_files.specs.declared.error.FileError.TheVariants.{NotAFilter, HashCount, Cut, TooLong, Reserved, Blocked, NotBlocked, PartOfALine, Seal, Memory, Input}
 use Rattle.bloom_files.specs.declared.layout.Layout.TheVariants.{Whole, Lines}
-use Rattle.bloom_files.specs.FileLayouts.{IsReadIn, IsRefusedIn, IsToldIn, layout_refusal, lines_refusal, refusal_in, right_seal_in, seal_refusal_in, sealed_bytes}
+use Rattle.bloom_files.specs.FileLayouts.{IsReadIn, IsRefusedIn, IsReportedIn, layout_refusal, lines_refusal, refusal_in, right_seal_in, seal_refusal_in, sealed_bytes}
 use Rattle.bloom_files.specs.FileRefusals.{reserved_refusal}
 use Rattle.bloom_files.proofs.FileFacts.{first, its_word, key_first, key_last, low, worked}
 use Rattle.bloom_files.proofs.LayoutFacts.{line_body, line_file, line_seal, line_start}
@@ -24,7 +24,7 @@ lines-last : lines_refusal (line_start 8 line_seal (low 1) (low 1)) ≡ Some Res
 unfolding whole_words
 lines-last = refl
 
--- so is a filter that isn't blocked, which is told behind what is reserved
+-- so is a filter that isn't blocked, which is reported behind what is reserved
 lines-whole : lines_refusal worked ≡ Some NotBlocked
 unfolding whole_words
 lines-whole = refl
@@ -46,7 +46,7 @@ lines-sixteen : lines_refusal (line_start 16 line_seal (low 1) (low 0)) ≡ None
 unfolding whole_words
 lines-sixteen = refl
 
--- that a filter isn't blocked is told before words that are no whole lines
+-- that a filter isn't blocked is reported before words that are no whole lines
 lines-whole_seven : lines_refusal (line_start 7 line_seal (low 0) (low 0)) ≡ Some NotBlocked
 unfolding whole_words
 lines-whole_seven = refl
@@ -107,7 +107,7 @@ refusal-not_blocked : refusal_in Lines worked ≡ Some NotBlocked
 unfolding sip start round absorb answer whole_words rest
 refusal-not_blocked = refl
 
--- the first numbers and the size are told before the end of the head
+-- the first numbers and the size are reported before the end of the head
 refusal-no_filter : refusal_in Lines (low 0 ++ low 3) ≡ Some NotAFilter
 unfolding sip start round absorb answer whole_words rest
 refusal-no_filter = refl
@@ -135,7 +135,7 @@ refusal-seal : refusal_in Lines (line_start 8 (low 5) (low 1) (low 0) ++ line_bo
 unfolding sip start round absorb answer whole_words rest
 refusal-seal = refl
 
--- the refusal is told, or out of memory where there is none
+-- the refusal is reported, or out of memory where there is none
 refused-blocked : IsRefusedIn Whole line_file (Some Blocked)
 unfolding sip start round absorb answer whole_words rest
 refused-blocked = inl refl
@@ -171,18 +171,18 @@ read-accepted is = elim is [
   | inr others ↦ elim others [ inl memory ↦ cc (memory.0) | inr input ↦ cc (input.1) ]
 ]
 
--- the refusal of all that a reader has is told, or a failed read
-told-cut : IsToldIn Lines (Some first) Cut
+-- the refusal of all that a reader has is reported, or a failed read
+reported-cut : IsReportedIn Lines (Some first) Cut
 unfolding whole_words
-told-cut = inr refl
+reported-cut = inr refl
 
-told-input : IsToldIn Lines (Some first) (Input kind.BrokenPipe)
-told-input = inl (kind.BrokenPipe, refl)
+reported-input : IsReportedIn Lines (Some first) (Input kind.BrokenPipe)
+reported-input = inl (kind.BrokenPipe, refl)
 
-told-unknown : IsToldIn Lines None Seal
-told-unknown = inr tt
+reported-unknown : IsReportedIn Lines None Seal
+reported-unknown = inr tt
 
 -- no other refusal is
-told-other : IsToldIn Lines (Some first) TooLong → ⊥
+reported-other : IsReportedIn Lines (Some first) TooLong → ⊥
 unfolding whole_words
-told-other is = elim is [ inl input ↦ cc (input.1) | inr same ↦ cc same ]
+reported-other is = elim is [ inl input ↦ cc (input.1) | inr same ↦ cc same ]

@@ -18,5 +18,5 @@ mod LineFileFacts
 mod NumberLemmas
 mod ReadLemmas
 mod RefusalLemmas
+mod ReportLemmas
 mod SealLemmas
-mod ToldLemmas

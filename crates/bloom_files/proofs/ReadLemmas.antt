@@ -10,28 +10,28 @@ use Rattle.bloom_files.specs.declared.error.FileError.{FileError}
 use Rattle.bloom_files.specs.declared.error.FileError.TheVariants.{NotAFilter, Version, HashCount, EmptyWords, TooManyWords, Cut, TooLong, Reserved, Blocked, NotBlocked, PartOfALine, Seal, Memory, Input}
 use Rattle.bloom_files.specs.declared.layout.Layout.{Layout}
 use Rattle.bloom_files.specs.File.{bytes_of}
-use Rattle.bloom_files.specs.FileLayouts.{IsReadIn, IsToldIn, ReadsParts, layout_refusal, numbers_in, refusal_in, sealed_bytes}
+use Rattle.bloom_files.specs.FileLayouts.{IsReadIn, IsReportedIn, ReadsParts, layout_refusal, numbers_in, refusal_in, sealed_bytes}
 use Rattle.bloom_files.specs.FileReads.{FailsEarly, FailsWithin, ReadsWords, StopsEnd, StopsWords}
 use Rattle.bloom_files.specs.FileRefusals.{head_in, head_refusal, number_at, wrong_seal}
 use Rattle.bloom_files.proofs.FileLemmas.{good-seal, is-file}
 use Rattle.bloom_files.proofs.NumberLemmas.{length-bytes_of}
 use Rattle.bloom_files.proofs.RefusalLemmas.{head_refusal-head, number_at-head, refusal_in-head, refusal_in-size, size_refusal-cut, size_refusal-long}
 
--- what is told of a head is told of the file
-pub told-head : (layout : Layout) (known : Option (List ℕ)) (error : FileError)
-    → IsToldIn layout known error → IfSome known (λ bytes. IsReadIn layout bytes (Some error))
-told-head layout None error told = tt
-told-head layout (Some bytes) error (inl input) = inr (inr input)
-told-head layout (Some bytes) error (inr is) = inl (sym is)
+-- what is reported about a head is reported of the file
+pub reported-head : (layout : Layout) (known : Option (List ℕ)) (error : FileError)
+    → IsReportedIn layout known error → IfSome known (λ bytes. IsReadIn layout bytes (Some error))
+reported-head layout None error told = tt
+reported-head layout (Some bytes) error (inl input) = inr (inr input)
+reported-head layout (Some bytes) error (inr is) = inl (sym is)
 
 -- a head was read that isn't refused
 module _ (old mid : Option (List ℕ)) (start : List ℕ) (size : length start ≡ 64)
     (good : head_refusal start ≡ None) (first : Consumes old mid start) where
   -- why the words weren't read is the refusal of all bytes, memory or a failed read
-  pub told-words : (layout : Layout) (count : ℕ) → count ≡ number_at start 2
+  pub reported-words : (layout : Layout) (count : ℕ) → count ≡ number_at start 2
       → (error : FileError) → StopsWords (8 * count) mid error
       → IfSome old (λ bytes. IsReadIn layout bytes (Some error))
-  told-words layout count is error stops =
+  reported-words layout count is error stops =
       told old mid first error (subst (λ n. StopsWords (8 * n) mid error) is stops)
     where
       told : (old mid : Option (List ℕ)) → Consumes old mid start → (error : FileError)
@@ -94,9 +94,9 @@ module _ (old mid end : Option (List ℕ)) (start : List ℕ) (size : length sta
   right = omega (arith, count, length-bytes_of words)
 
   -- why the reader isn't at its end is the refusal of all bytes, or a failed read
-  pub told-end : (layout : Layout) (error : FileError) → StopsEnd end error
+  pub reported-end : (layout : Layout) (error : FileError) → StopsEnd end error
       → IfSome old (λ bytes. IsReadIn layout bytes (Some error))
-  told-end layout error stops = told old end both error stops
+  reported-end layout error stops = told old end both error stops
     where
       told : (old end : Option (List ℕ)) → Consumes old end (start ++ bytes_of words)
           → (error : FileError) → StopsEnd end error
@@ -161,7 +161,7 @@ module _ (old mid end : Option (List ℕ)) (start : List ℕ) (size : length sta
       abbrev hashed_bytes : List ℕ
       hashed_bytes = sealed_bytes layout start ++ bytes_of words
 
-      -- what the head and the words are refused for is told
+      -- what the head and the words are refused for is reported
       told : (error : Option FileError) → error ≡ refusal_in layout (start ++ bytes_of words)
           → IfSome old (λ bytes. IsReadIn layout bytes error)
       told error is =
@@ -169,9 +169,9 @@ module _ (old mid end : Option (List ℕ)) (start : List ℕ) (size : length sta
           all-read at_end (inl is)
 
       -- the refusal of the end of the head
-      pub told-layout : (error : FileError) → Some error ≡ layout_refusal layout start
+      pub reported-layout : (error : FileError) → Some error ≡ layout_refusal layout start
           → IfSome old (λ bytes. IsReadIn layout bytes (Some error))
-      told-layout error is =
+      reported-layout error is =
           told (Some error)
           (sym (refusal_in-head start (bytes_of words) size layout right
           ∙ (λ i. option_or (good i) (option_or (sym is i)
@@ -185,11 +185,11 @@ module _ (old mid end : Option (List ℕ)) (start : List ℕ) (size : length sta
           ∙ ap (λ l. sip 0 0 (sealed_bytes layout start ++ bytes_of l)) (sym reads.behind)
 
       -- the refusal of the seal, or none
-      pub told-seal : (error : Option FileError) (hash : ℕ)
+      pub reported-seal : (error : Option FileError) (hash : ℕ)
           → Hashed f 0 0 (sealed_bytes layout start) → Answers h hash
           → layout_refusal layout start ≡ None → error ≡ wrong_seal (number_at start 5) hash
           → IfSome old (λ bytes. IsReadIn layout bytes error)
-      told-seal error hash begun answers none is =
+      reported-seal error hash begun answers none is =
           told error
           (is ∙ ap (wrong_seal (number_at start 5)) (right-seal hash begun answers)
           ∙ sym (refusal_in-head start (bytes_of words) size layout right

@@ -110,8 +110,8 @@ IsReadIn layout bytes error =
     ⊎ IsInput error
 
 -- the error is the refusal of all that a reader has, where it is known, or a failed read
-abbrev pub IsToldIn : Layout → Option (List ℕ) → FileError → Type 0
-IsToldIn layout known error =
+abbrev pub IsReportedIn : Layout → Option (List ℕ) → FileError → Type 0
+IsReportedIn layout known error =
     IsInput (Some error) ⊎ IfSome known (λ bytes. refusal_in layout bytes ≡ Some error)
 
 -- from old to new a reader gave a file of a head and words, and is at its end

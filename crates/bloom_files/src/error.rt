@@ -6,8 +6,8 @@ use std::alloc::{AllocError, AllocFailed};
 use std::io::ErrorKind;
 use thiserror::Error;
 
-/// Why bytes are no file of a filter, or why it isn't read. Of several reasons the first is told,
-/// in the order of the variants.
+/// Why bytes are no file of a filter, or why it isn't read. Of several reasons the first is
+/// reported, in the order of the variants.
 #[derive(Clone, Copy, Debug, PartialEq, Eq, Drop, Error)]
 pub enum FileError {
     /// The file has fewer than eight bytes, or doesn't begin with `fbloom` and a zero byte.

@@ -118,7 +118,7 @@ pub trait FilterFile: Drop {
         ensures key { IfOk result (λ filter. HasOwnKey (seen filter)) }
         ensures refused { IfSome (R.remaining input.old)
             (λ bytes. IsReadIn layout bytes (result_err result)) }
-        // A failed read is told only where the bytes before it decide no refusal yet.
+        // A failed read is reported only where the bytes before it decide no refusal yet.
         ensures input { IfErr result
             (FailsEarly (R.remaining input.old) (R.remaining input.new)) }
     {

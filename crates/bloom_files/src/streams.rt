@@ -6,7 +6,7 @@ ghost use Rattle.std.specs.Io.KnownBytes.{Appends, Consumes, IsAtEnd};
 ghost use Rattle.lines.specs.Writing.{AppendsPart};
 ghost use Rattle.bloom_files.specs.declared.layout.Layout.{Layout as ALayout};
 ghost use Rattle.bloom_files.specs.File.{bytes_of};
-ghost use Rattle.bloom_files.specs.FileLayouts.{IsReadIn, IsToldIn, ReadsParts, sealed_file};
+ghost use Rattle.bloom_files.specs.FileLayouts.{IsReadIn, IsReportedIn, ReadsParts, sealed_file};
 ghost use Rattle.bloom_files.specs.FileReads.{AsksAsGiven, FailsEarly, FailsWithin, Gives, ReadsWords, StopsEnd, StopsWords};
 ghost use Rattle.bloom_files.specs.FileRefusals.{head_refusal};
 
@@ -145,7 +145,7 @@ fn read_start<R: Read>(input: &mut R) -> Result<[u8; 64], FileError>
     ensures good { IfOk result (λ head. head_refusal head ≡ None) }
     // It is refused so whatever the layout that is read.
     ensures refused { IfErr result
-        (λ error. (layout : ALayout) → IsToldIn layout (R.remaining input.old) error) }
+        (λ error. (layout : ALayout) → IsReportedIn layout (R.remaining input.old) error) }
     ensures input { IfErr result
         (FailsWithin 64 (R.remaining input.old) (R.remaining input.new)) }
 {
@@ -214,7 +214,7 @@ pub fn read_parts<R: Read>(
         (R.remaining input.old) (R.remaining input.new) parts.0 parts.1.items) }
     ensures refused { IfSome (R.remaining input.old)
         (λ bytes. IsReadIn layout bytes (result_err result)) }
-    // A failed read is told only where the bytes before it decide no refusal yet.
+    // A failed read is reported only where the bytes before it decide no refusal yet.
     ensures input { IfErr result
         (FailsEarly (R.remaining input.old) (R.remaining input.new)) }
 {

@@ -53,7 +53,7 @@ room-greatest_size refused =
     refused.room_refused (lit< tt) (lit≤ tt) in
     cc
 
--- where neither can be halved nor doubled, the rate is told
+-- where neither can be halved nor doubled, the rate is reported
 both-room : RefusesNumber least_rate 9223372036854775808 1 (Some TooManyItems) → ⊥
 both-room refused =
     let wrong : Some TooManyItems ≡ Some RateOverflow = refused.rate_refused (lit≤ tt) in cc
@@ -83,7 +83,7 @@ not-room : (refusal : Option FilterError) → Some TooManyItems ≡ of_builders 
 not-room None wrong = cc
 not-room (Some e) wrong = cc
 
--- so memory is told neither as the rate nor as the room
+-- so memory is reported neither as the rate nor as the room
 size-made_rate : RefusesNumber four 1 1 (Some RateOverflow) → ⊥
 size-made_rate refused =
     let size = refused.size_refused (lit< tt) (lit< tt) in not-rate size.2 size.4

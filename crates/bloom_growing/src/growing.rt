@@ -9,16 +9,16 @@ ghost use Rattle.bloom_growing.specs.Growing.{plan_of, IsKeyed, any_contains, ha
 ghost use Rattle.bloom_growing.specs.GrowingInserts.{IsBegun, Begins, Adds, Takes, RefusesNumber, RefusesInsert};
 
 mod error;
+pub(crate) mod filters;
 mod items;
 mod looks;
-pub(crate) mod parts;
 mod rates;
 
 use bloom_parts::hasher::DefaultHasher;
 use bloom_parts::math::Rate;
 use bloom_plain::BloomFilter;
 pub use error::GrowingError;
-use parts::{any_contains, half, insert_once, make};
+use filters::{any_contains, half, insert_once, make};
 use std::alloc::Global;
 use std::marker::Model;
 use std::mem;

@@ -15,7 +15,7 @@ mod looks;
 mod rates;
 
 use crate::growing::GrowingError;
-use crate::growing::parts::{half, insert_once, make};
+use crate::growing::filters::{half, insert_once, make};
 use bloom_parts::hasher::DefaultHasher;
 use bloom_parts::laws::content_of_words;
 use bloom_parts::math::Rate;

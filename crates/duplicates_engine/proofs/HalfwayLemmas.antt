@@ -11,10 +11,10 @@ use Rattle.duplicates_engine.specs.Inputs.{Opens, IsFresh}
 use Rattle.duplicates_engine.specs.Kept.{text_of}
 use Rattle.duplicates_engine.specs.Longer.{limit_of, longer_lines}
 use Rattle.duplicates_engine.specs.Sieves.{HasSifted}
-use Rattle.duplicates_engine.specs.Told.{Counts, TellsOf, WarnsOf, HasRoom}
+use Rattle.duplicates_engine.specs.Progress.{Counts, TellsOf, WarnsOf, HasRoom}
 use Rattle.duplicates_engine.proofs.InputLemmas.{IsReading, opens-left, reading-first}
 use Rattle.duplicates_engine.proofs.SiftLemmas.{sifted-nil}
-use Rattle.duplicates_engine.proofs.ToldLemmas.{told-nil}
+use Rattle.duplicates_engine.proofs.ProgressLemmas.{tells-nil}
 use Rattle.duplicates_engine.proofs.WarnLemmas.{counts-nil, warns-nil, room-nil}
 
 module _ {V : Type 0} (span : V → Option ℕ) (recalls : V → List (List ℕ) → Type 0)
@@ -44,7 +44,7 @@ module _ {V : Type 0} (span : V → Option ℕ) (recalls : V → List (List ℕ)
     short = All-nil (λ line. length line ≤ limit_of options);
     counts = counts-nil tally none_read none_held;
     are_longer = refl;
-    tells = told-nil before;
+    tells = tells-nil before;
     warns = warns-nil options.most calm;
     has_room = room-nil options.most;
   }

@@ -12,12 +12,12 @@ use Rattle.duplicates_engine.specs.declared.tally.Total.{Total}
 use Rattle.duplicates_engine.specs.Faults.{IsOfSystem}
 use Rattle.duplicates_engine.specs.Inputs.{NoneComes, OpensNext, EndsAll, FindsLong}
 use Rattle.duplicates_engine.specs.Longer.{limit_of}
-use Rattle.duplicates_engine.specs.Told.{Counts}
+use Rattle.duplicates_engine.specs.Progress.{Counts}
 use Rattle.duplicates_engine.specs.Kept.{text_of, KeepsNew, KeepsUntil}
 use Rattle.duplicates_engine.proofs.InputLemmas.{reading-next}
 use Rattle.duplicates_engine.proofs.EndLemmas.{none-read, all-read, first-read, first-none, long-read}
 use Rattle.duplicates_engine.proofs.SiftLemmas.{sifted-nil}
-use Rattle.duplicates_engine.proofs.ToldLemmas.{told-nil}
+use Rattle.duplicates_engine.proofs.ProgressLemmas.{tells-nil}
 use Rattle.duplicates_engine.proofs.WarnLemmas.{counts-nil, warns-nil}
 use Rattle.duplicates_engine.proofs.WriteLemmas.{written-all, reached-at}
 use Rattle.duplicates_engine.proofs.HalfwayLemmas.{IsKeeping}
@@ -40,7 +40,7 @@ module _ {V : Type 0} (span : V → Option ℕ) (recalls : V → List (List ℕ)
     short = All-nil (λ line. length line ≤ limit_of options);
     counts = counts-nil total.tally none_read none_held;
     longer = none_longer;
-    tells = told-nil before;
+    tells = tells-nil before;
     warns = warns-nil options.most calm;
   }
 
@@ -57,7 +57,7 @@ module _ {V : Type 0} (span : V → Option ℕ) (recalls : V → List (List ℕ)
     is_text = written-all fault [];
     reached = reached-at end (limit_of options) fault come [] is (first-none end come);
     short = All-nil (λ line. length line ≤ limit_of options);
-    tells = told-nil before;
+    tells = tells-nil before;
     warns = warns-nil options.most calm;
   }
 

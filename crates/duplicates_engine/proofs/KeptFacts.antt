@@ -12,7 +12,7 @@ use Rattle.duplicates_engine.specs.declared.tally.Tally.{Tally}
 use Rattle.duplicates_engine.specs.Kept.{chosen, text_of, piece, Writes}
 use Rattle.duplicates_engine.specs.Longer.{is_longer, limit_of, longer_lines, short_lines, short_replies}
 use Rattle.duplicates_engine.specs.Plain.{line_hash}
-use Rattle.duplicates_engine.specs.Told.{held_back, new_lines, Counts}
+use Rattle.duplicates_engine.specs.Progress.{held_back, new_lines, Counts}
 
 -- three lines, of which the third came before
 abbrev lines : List (List ℕ)

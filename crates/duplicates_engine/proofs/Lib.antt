@@ -19,6 +19,8 @@ mod LongerLemmas
 mod PlaceLemmas
 mod PlainFacts
 mod PlainLemmas
+mod ProgressFacts
+mod ProgressLemmas
 mod RotatingFacts
 mod RotatingLemmas
 mod RunFacts
@@ -26,8 +28,6 @@ mod SieveFacts
 mod SiftLemmas
 mod StepFacts
 mod TextLemmas
-mod ToldFacts
-mod ToldLemmas
 mod WarnFacts
 mod WarnLemmas
 mod WriteLemmas

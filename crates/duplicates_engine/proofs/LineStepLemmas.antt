@@ -14,13 +14,13 @@ use Rattle.duplicates_engine.specs.Inputs.{AreFirstRead, TakesNext}
 use Rattle.duplicates_engine.specs.Kept.{text_of, piece, Writes, KeepsUntil}
 use Rattle.duplicates_engine.specs.Longer.{is_longer, limit_of}
 use Rattle.duplicates_engine.specs.Sieves.{SiftsShort, IsNew, HasSifted}
-use Rattle.duplicates_engine.specs.Told.{Counts, CountsLine, TellsOf, WarnsOf, HasRoom}
+use Rattle.duplicates_engine.specs.Progress.{Counts, CountsLine, TellsOf, WarnsOf, HasRoom}
 use Rattle.duplicates_engine.proofs.InputLemmas.{IsReading, reading-more}
 use Rattle.duplicates_engine.proofs.EndLemmas.{first-read}
 use Rattle.duplicates_engine.proofs.LongerLemmas.{longer-more}
 use Rattle.duplicates_engine.proofs.SiftLemmas.{sifted-more}
 use Rattle.duplicates_engine.proofs.TextLemmas.{text-more}
-use Rattle.duplicates_engine.proofs.ToldLemmas.{told-step}
+use Rattle.duplicates_engine.proofs.ProgressLemmas.{tells-step}
 use Rattle.duplicates_engine.proofs.WarnLemmas.{counts-more, warns-more}
 use Rattle.duplicates_engine.proofs.WriteLemmas.{from-begins, to-begins, writer-system, reached-at}
 use Rattle.duplicates_engine.proofs.HalfwayLemmas.{IsKeeping}
@@ -93,9 +93,9 @@ module _ {V : Type 0} (span : V → Option ℕ) (recalls : V → List (List ℕ)
           sifted-more span recalls sifts options.longest old now so_far.lines so_far.replies
           so_far.sifting.sifted none new line reply sifted is_new taken spans
 
-      pub all_told : TellsOf before tells (so_far.replies ++ reply ∷ [])
-      all_told =
-          told-step before after tells so_far.replies reply more so_far.sifting.tells
+      pub tells_all : TellsOf before tells (so_far.replies ++ reply ∷ [])
+      tells_all =
+          tells-step before after tells so_far.replies reply more so_far.sifting.tells
           (omega (arith, counted.read, so_far.sifting.counts.read)) counts.held counted.told
           counted.quiet
 
@@ -140,7 +140,7 @@ module _ {V : Type 0} (span : V → Option ℕ) (recalls : V → List (List ℕ)
           counts = counts;
           are_longer = longer-more options.longest so_far.lines line longer most
               so_far.sifting.are_longer is_longer_now;
-          tells = all_told;
+          tells = tells_all;
           warns = all_warned.1;
           has_room = all_warned.0;
         };
@@ -172,6 +172,6 @@ module _ {V : Type 0} (span : V → Option ℕ) (recalls : V → List (List ℕ)
                 reached-at end (limit_of options) fault come all (writer-system fault is)
                 (first-read end come left (left_of after_line input) all next all_read);
             short = shorts;
-            tells = all_told;
+            tells = tells_all;
             warns = all_warned.1;
           }

@@ -79,11 +79,11 @@ module _ (hash_of : List ℕ → ℕ) where
           )
 
   -- a reply that is false tells that a line is new
-  pub told-new : {S : Type 0} (start r : Rotating S) (line : List ℕ) (reply : Bool)
+  pub tells-new : {S : Type 0} (start r : Rotating S) (line : List ℕ) (reply : Bool)
       → RecentFoundLaw S → reply ≡ either_contains r (hash_of line) → reply ≡ false
       → (lines : List (List ℕ)) → ReceivesAll start (map hash_of lines) r
       → IsNew (Some r.plan.room) lines line
-  told-new start r line reply law answers is lines came front behind other cut few same =
+  tells-new start r line reply law answers is lines came front behind other cut few same =
       let found : either_contains r (hash_of other) ≡ true =
       law start r (map hash_of front) (map hash_of behind) (hash_of other)
       (subst (λ l. ReceivesAll start l r)

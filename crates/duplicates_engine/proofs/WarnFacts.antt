@@ -1,7 +1,7 @@
 -- What is warned of: of each relation cases that hold, and near ones that don't.
 use Rattle.std.proofs.Common.{◌≡◌, ℕ, ◌<◌, Bool, true, false, List, [], ◌∷◌, length, Option, Some, None, refl, ap, arith}
 use Rattle.duplicates_engine.specs.declared.tally.Tally.{Tally}
-use Rattle.duplicates_engine.specs.Told.{IsOneMore, WarnsOf, HasRoom, Warns}
+use Rattle.duplicates_engine.specs.Progress.{IsOneMore, WarnsOf, HasRoom, Warns}
 
 -- four lines, of which the second came before
 abbrev replies : List Bool

@@ -3,7 +3,7 @@ use Rattle.std.proofs.Common.{◌≡◌, ℕ, ◌+◌, ◌-◌, ◌^◌, ◌≤�
 use Rattle.std.proofs.Math.Seq.{get_or-append_seam, take-append_seam}
 use Rattle.std.proofs.lemmas.List.{get_or_append_left, take-append-le, take_all}
 use Rattle.duplicates_engine.specs.declared.tally.Tally.{Tally}
-use Rattle.duplicates_engine.specs.Told.{held_back, new_lines, Counts, Tells, WarnsAtOneMore, WarnsOf, HasRoom, Warns}
+use Rattle.duplicates_engine.specs.Progress.{held_back, new_lines, Counts, Tells, WarnsAtOneMore, WarnsOf, HasRoom, Warns}
 
 -- one more line that was held back
 pub held-true : (replies : List Bool) → held_back (replies ++ true ∷ []) ≡ held_back replies + 1

@@ -70,13 +70,13 @@ reached-at end longest (Input kind) come lines is first = first
 reached-at end longest (Output kind) come lines is first = first
 
 -- what is told of a writer is the fault of one
-pub told-writer : (kind : ErrorKind) (fault : Fault) → TellsWrite kind fault → IsOfWriter fault
-told-writer kind (TooLong number) is = absurd is
-told-writer kind Memory is = absurd is
-told-writer kind Full is = absurd is
-told-writer kind (Open told) is = absurd is
-told-writer kind (Input told) is = absurd is
-told-writer kind (Output told) is = tt
+pub tells-writer : (kind : ErrorKind) (fault : Fault) → TellsWrite kind fault → IsOfWriter fault
+tells-writer kind (TooLong number) is = absurd is
+tells-writer kind Memory is = absurd is
+tells-writer kind Full is = absurd is
+tells-writer kind (Open told) is = absurd is
+tells-writer kind (Input told) is = absurd is
+tells-writer kind (Output told) is = tt
 
 -- a text was written by what was written of it
 pub writes-all : (whole other : List ℕ) (from to : Option (List ℕ)) → Appends from to whole

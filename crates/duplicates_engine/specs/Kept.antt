@@ -16,7 +16,7 @@ use Rattle.duplicates_engine.specs.Faults.{IsOfWriter, IsWrittenAt, IsReadAt}
 use Rattle.duplicates_engine.specs.Inputs.{AreAllRead}
 use Rattle.duplicates_engine.specs.Longer.{is_longer, limit_of, longer_lines}
 use Rattle.duplicates_engine.specs.Sieves.{HasSifted}
-use Rattle.duplicates_engine.specs.Told.{Counts, TellsOf, WarnsOf}
+use Rattle.duplicates_engine.specs.Progress.{Counts, TellsOf, WarnsOf}
 
 -- whether a line is written, by whether it is longer than a line may be, and by its reply: a longer
 -- one is passed on with the new lines

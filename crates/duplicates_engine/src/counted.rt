@@ -1,6 +1,6 @@
 //! Counting a line, and telling what there is to tell of it.
 ghost use Rattle.std.specs.Prelude.{◌≡◌, ◌+◌, ◌-◌, ◌^◌, min, if◌then◌else◌};
-ghost use Rattle.duplicates_engine.specs.Told.{CountsLine};
+ghost use Rattle.duplicates_engine.specs.Progress.{CountsLine};
 
 use crate::progress::{Progress, tell, warn};
 use crate::tally::{Tally, Total};

@@ -1,6 +1,6 @@
 //! Telling how far a run is, and warning.
 ghost use Rattle.std.specs.Prelude.{◌≡◌, ◌≢◌, ◌%◌};
-ghost use Rattle.duplicates_engine.specs.Told.{Tells, Warns};
+ghost use Rattle.duplicates_engine.specs.Progress.{Tells, Warns};
 
 use crate::tally::Tally;
 

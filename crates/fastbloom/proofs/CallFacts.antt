@@ -7,13 +7,13 @@ use Rattle.bloom_parts.specs.Places.{place}
 use Rattle.bloom_steps.specs.Scripts.{Any, answer_of_end}
 use Rattle.bloom_steps.specs.LiveSteps.{IsMade, WasInserted}
 use Rattle.fastbloom.specs.Shared.{SharedFilter, MakesInsert}
-use Rattle.fastbloom.proofs.SharedFacts.{insert-turns-on-each}
+use Rattle.fastbloom.proofs.SharedFacts.{insert-sets-each}
 use Rattle.fastbloom.proofs.ScriptLemmas.{member}
 use Rattle.bloom_steps.proofs.LiveLemmas.{last-of, made-at}
 
 -- one step of an insert set this place, and found it set or clear
-abbrev TurnsOn : {S : Type 0} → SharedFilter S → ℕ → Bool → Type 0
-TurnsOn f p was = (found : ℕ) × FoundByOr f.words (p / 64) (2 ^ (p % 64)) found
+abbrev SetsPlace : {S : Type 0} → SharedFilter S → ℕ → Bool → Type 0
+SetsPlace f p was = (found : ℕ) × FoundByOr f.words (p / 64) (2 ^ (p % 64)) found
     × (bit_is_on found p ≡ was)
 
 module _ {S : Type 0} (f : SharedFilter S) (hash : ℕ) where
@@ -30,7 +30,7 @@ module _ {S : Type 0} (f : SharedFilter S) (hash : ℕ) where
 
   -- an insert that replies false set a place of its hash that it found clear
   insert-false : 1 ≤ f.hashes → MakesInsert f hash false
-      → (i : ℕ) × (i < f.hashes) × TurnsOn f (place (64 * f.words.count) hash i) false
+      → (i : ℕ) × (i < f.hashes) × SetsPlace f (place (64 * f.words.count) hash i) false
   insert-false some calls =
       let off = (reply-false false some calls).0 refl in
       let within = slice_get_within calls.taken off.0 off.1 off.2 in
@@ -49,7 +49,7 @@ module _ {S : Type 0} (f : SharedFilter S) (hash : ℕ) where
 
   -- an insert that replies true found each place of its hash set
   insert-true : MakesInsert f hash true → (i : ℕ) → i < f.hashes
-      → TurnsOn f (place (64 * f.words.count) hash i) true
+      → SetsPlace f (place (64 * f.words.count) hash i) true
   insert-true calls i within =
       let p = place (64 * f.words.count) hash i in
       let at = member calls.taken i (omega (arith, within, calls.script.count)) in
@@ -75,4 +75,4 @@ module _ {S : Type 0} (f : SharedFilter S) (hash : ℕ) where
       → let p = place (64 * f.words.count) hash i in
       (found : ℕ) × FoundByOr f.words (p / 64) (2 ^ (p % 64)) found
   was-inserted first last (reply, made) i within =
-      insert-turns-on-each f hash reply made.did i within
+      insert-sets-each f hash reply made.did i within

@@ -100,11 +100,11 @@ clear-is-silent name reply calls =
     none-some reply (sym (calls.answers ∙ silent calls.taken calls.script.last))
 
 -- by an insert each position of its hash was set, in the filter's own words
-pub insert-turns-on-each : {S : Type 0} (f : SharedFilter S) (hash : ℕ) (reply : Bool)
+pub insert-sets-each : {S : Type 0} (f : SharedFilter S) (hash : ℕ) (reply : Bool)
     → MakesInsert f hash reply → (i : ℕ) → i < f.hashes
     → let p = place (64 * f.words.count) hash i in
     (found : ℕ) × FoundByOr f.words (p / 64) (2 ^ (p % 64)) found
-insert-turns-on-each f hash reply calls i within =
+insert-sets-each f hash reply calls i within =
     let at = member calls.taken i (omega (arith, within, calls.script.count)) in
     let made = made-at f.words f.words calls.first calls.last calls.taken calls.made i at.0 at.1
     in (

@@ -1,5 +1,5 @@
 -- Steps that lead from turn to turn are steps of their own, also where one is as the other. The
--- facts are opaque, so what can't be shown of one step alone is told by what two steps give.
+-- facts are opaque, so what can't be shown of one step alone is shown by what two steps give.
 use Rattle.std.proofs.Common.{◌≡◌, ℕ, ◌/◌, ◌%◌, ◌^◌, Bool, List, [], ◌∷◌, length, refl, sym, subst, arith}
 use Rattle.bloom_parts.specs.Made.{SharedWords, FoundByLoad, FoundByOr, InTurn}
 use Rattle.bloom_parts.specs.Places.{place}
@@ -43,22 +43,22 @@ no-load : (name : ℕ) → Linked (Makes name) 1 [] 3 → ⊥
 no-load name linked = omega (arith, linked)
 
 -- two steps of an insert, each in its turn: the second begins where the first ended
-abbrev TurnOnTwo : {S : Type 0} → SharedFilter S → ℕ → ℕ → Type 0
-TurnOnTwo f p q =
+abbrev SetTwo : {S : Type 0} → SharedFilter S → ℕ → ℕ → Type 0
+SetTwo f p q =
     (first : ℕ) × (second : ℕ) × (end : ℕ) × (found : ℕ) × (other : ℕ)
     × InTurn (FoundByOr f.words (p / 64) (2 ^ (p % 64)) found) first second
     × InTurn (FoundByOr f.words (q / 64) (2 ^ (q % 64)) other) second end
 
 -- an insert with two hashes makes two steps, one after the other, also where its places coincide
 insert-makes-two : (name hash : ℕ) (reply : Bool) → MakesInsert (filter name 1 2) hash reply
-    → TurnOnTwo (filter name 1 2) (place 64 hash 0) (place 64 hash 1)
+    → SetTwo (filter name 1 2) (place 64 hash 0) (place 64 hash 1)
 insert-makes-two name hash reply calls =
     of calls.taken calls.first calls.last calls.script.count calls.script.steps calls.made
   where
     of : (s : List Taken) (first last : ℕ) → length s ≡ 2
         → Each s (λ i t. t.step ≡ or_at (place 64 hash i))
         → Linked (Makes name) first s last
-        → TurnOnTwo (filter name 1 2) (place 64 hash 0) (place 64 hash 1)
+        → SetTwo (filter name 1 2) (place 64 hash 0) (place 64 hash 1)
     of [] first last count steps made = absurd (omega (arith, count))
     of (t ∷ []) first last count steps made = absurd (omega (arith, count))
     of (t ∷ (u ∷ [])) first last count steps made = (

@@ -1,7 +1,7 @@
 -- A seated filter and its passes as callers see them, and what calls do to a pass. A seated filter
 -- is one whose words threads share at a table, where each thread has a seat. A pass is a thread's
 -- seat as callers see it. It knows the positions that its steps found set or set themselves, and
--- those that it was told of. It gained those that its steps set. These words are this project's
+-- those that it heard of. It gained those that its steps set. These words are this project's
 -- own.
 use Rattle.std.specs.Prelude.{◌≡◌, ◌+◌, ◌*◌, ◌/◌, ◌<◌, ◌≤◌, ◌⊎◌, ◌||◌, ℕ, Bool, true, false, List, []}
 use Rattle.atomic_table.specs.Seated.{TableId}

@@ -6,7 +6,7 @@ use Rattle.atomic_table.specs.Table.{Me, Step}
 use Rattle.atomic_table.specs.declared.shared.Seat.{Seat}
 use Rattle.bloom_parts.specs.Content.{bit_is_on, content}
 use Rattle.bloom_parts.specs.Places.{IsPart}
-use Rattle.fastbloom.specs.Sets.{set_of, on_in, fresh_in}
+use Rattle.fastbloom.specs.Sets.{set_of, ones_in, fresh_in}
 use Rattle.fastbloom.specs.declared.seated.rule.Sets.{Sets}
 use Rattle.fastbloom.specs.declared.seated.rule.Size.{Size}
 use Rattle.fastbloom.specs.declared.seated.rule.Role.TheVariants.{First, Pass, Note, Spent}
@@ -34,12 +34,12 @@ Shows v i found = (p : ℕ) → p / 64 ≡ i → sure_in v p ≡ true → bit_is
 
 -- after a load the seat knows what it found set
 abbrev pub after_load : Sets → ℕ → ℕ → Sets
-after_load v i found = record v { known = v.known ++ on_in i found }
+after_load v i found = record v { known = v.known ++ ones_in i found }
 
 -- after an `|` the seat knows the positions of the mask, and gained those that were clear
 abbrev pub after_or : Sets → ℕ → ℕ → ℕ → Sets
 after_or v i mask found = record v {
-  known = v.known ++ on_in i mask;
+  known = v.known ++ ones_in i mask;
   gained = v.gained ++ fresh_in i mask found;
 }
 
@@ -49,8 +49,8 @@ loaded step me found new =
     (new.0 ≡ after_load me.0 step.word found) × Shows me.0 step.word found
 
 -- an `|` by a pass
-abbrev pub turned_on : Step (Unit {0}) → Sat → ℕ → Sat → Type 0
-turned_on step me found new =
+abbrev pub bits_set : Step (Unit {0}) → Sat → ℕ → Sat → Type 0
+bits_set step me found new =
     (new.0 ≡ after_or me.0 step.word step.first found) × Shows me.0 step.word found
     × IsPart (set_of me.0.gained) (set_of me.0.known)
 
@@ -100,8 +100,8 @@ abbrev pub note_of : Sets → Sets
 note_of v = record v { role = Note; gained = []; passes = 0 }
 
 -- a seat that a note joins knows also what is in the note
-abbrev pub told : Sets → Sets → Sets
-told v w = record v { known = v.known ++ w.known }
+abbrev pub informed : Sets → Sets → Sets
+informed v w = record v { known = v.known ++ w.known }
 
 -- what is left of a note that was joined
 abbrev pub spent_view : Sets

@@ -37,9 +37,10 @@ pub record IsSeated (words passes : ℕ) (s : Standing) : Type 0 where
   pub start : List ℕ
   -- every seat that isn't spent carries the start, and all of it is set
   pub same_start : (seat : ℕ) (v : Sets) → Has s seat v → v.role ≢ Spent → v.start ≡ start
-  pub start_on : IsPart (content start) (content s.words)
+  pub start_is_set : IsPart (content start) (content s.words)
   -- all that is known is set
-  pub known_on : (seat : ℕ) (v : Sets) → Has s seat v → IsPart (set_of v.known) (content s.words)
+  pub known_is_set : (seat : ℕ) (v : Sets) → Has s seat v
+      → IsPart (set_of v.known) (content s.words)
   -- what is gained is known, was clear at the start, and was gained by no other seat
   pub gained_known : (seat : ℕ) (v : Sets) → Has s seat v
       → IsPart (set_of v.gained) (set_of v.known)

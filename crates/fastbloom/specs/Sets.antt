@@ -15,8 +15,8 @@ picked i test (suc n) =
     if test (64 * i + n) then (64 * i + n) ∷ picked i test n else picked i test n
 
 -- the positions of word i that are set in a word
-abbrev pub on_in : ℕ → ℕ → List ℕ
-on_in i word = picked i (bit_is_on word) 64
+abbrev pub ones_in : ℕ → ℕ → List ℕ
+ones_in i word = picked i (bit_is_on word) 64
 
 -- the positions of word i that are set in a mask and clear in the word found
 abbrev pub fresh_in : ℕ → ℕ → ℕ → List ℕ

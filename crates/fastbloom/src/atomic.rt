@@ -3,12 +3,12 @@ ghost use Rattle.std.specs.Prelude.{◌≡◌, ◌*◌, ◌≤◌, max, Some};
 ghost use Rattle.bloom_steps.specs.declared.steps.vocabulary.Call.TheVariants.{Contains};
 ghost use Rattle.fastbloom.specs.Shared.{MakesCall, MakesInsert};
 
+mod all_words;
 mod data;
 mod items;
 mod ones;
 mod rates;
 mod sets;
-mod words;
 
 use bloom_parts::bit_vector::AtomicBitVec;
 use bloom_parts::hasher::DefaultHasher;

@@ -2,10 +2,10 @@
 //!
 //! It exports what a user needs of the crates below, and has the filters that threads share:
 //!
-//! - `atomic`: `AtomicBloomFilter`, with its items, sets, words (`words`), data and rates.
+//! - `atomic`: `AtomicBloomFilter`, with its items, sets, words (`all_words`), data and rates.
 //! - `builder`: its builders, over the plain ones.
 //! - `parallel`: `fill`, by which workers fill one filter: its shape (`shape`), the gate that each
-//!   passes (`gate`), the work of one (`job`) and of all (`crew`).
+//!   passes (`gate`), the work of one (`job`) and of all (`workers`).
 //! - `seated`: `SeatedBloomFilter`, whose words lie in a table of `atomic_table`: its calls
 //!   (`filter`), its rule (`rule`), the steps of passes (`steps`) and their loops (`looks`), how it
 //!   begins (`opening`, `passes`), how passes meet (`meetings`), and how it ends (`closing`).

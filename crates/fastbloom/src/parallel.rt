@@ -4,19 +4,19 @@ ghost use Rattle.std.specs.List.{concat};
 ghost use Rattle.bloom_parts.specs.Keys.{HasKey};
 ghost use Rattle.fastbloom.specs.Fill.{IsFilledWith};
 
-mod crew;
 mod gate;
 mod job;
 mod shape;
+mod workers;
 
 use bloom_parts::error::FilterError;
 use bloom_plain::BloomFilter;
-use crew::{prepare, set_to_work};
 pub use gate::Gate;
 pub use shape::Shape;
 use std::alloc::Global;
 use std::sync::Arc;
 use std::thread::Threads;
+use workers::{prepare, set_to_work};
 
 /// The filter of all hashes of all parts, under the zero key. Each part goes to a thread of its
 /// own, which passes the gate once and then inserts its hashes into a filter of its own. The result
@@ -46,6 +46,6 @@ pub fn fill<R: Threads, G: Gate + Send + Sync + Drop + 'static>(
     ensures refused { IfErr result (λ error.
         (error ≡ FilterError.Memory) ⊎ (error ≡ FilterError.Worker)) }
 {
-    let crew = prepare(alloc, &gate, shape, parts)?;
-    Ok(set_to_work(rt, crew)?)
+    let prepared = prepare(alloc, &gate, shape, parts)?;
+    Ok(set_to_work(rt, prepared)?)
 }

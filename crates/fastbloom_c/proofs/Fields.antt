@@ -1,17 +1,11 @@
 -- The machine values of shared words. Assumes `Logic`.
-use Rattle.std.proofs.Common.{◌≡◌, ℕ, List, [], ◌∷◌, ◌++◌, refl, ap, ◌∙◌, w64}
-use seplogic.Ra.Ura.{Ura}
-use mir.Val.{Val, vint, vstruct, vcons, vnil, of_list}
-use types.Logic.{Logic}
-use denote.RattleType.{RattleType}
-use denote.RawPtr.{Ptr, ptr_val}
-use denote.Laws.{Is}
+use Rattle.atomic_table.proofs.Names.{◌≡◌, ℕ, List, [], ◌∷◌, ◌++◌, refl, ap, ◌∙◌, w64, Val, vint, vstruct, vcons, vnil, of_list, RattleType, Ptr, ptr_val, Is, Ura, Logic}
 use denote.Opens.{Opens}
 use denote.Struct.Struct.{Struct}
 use denote.Struct.Owning.{shape}
 use denote.Struct.Laws.{RawPtr-copy, usize-copy}
 use denote.Copied.{Struct-Copied}
-use Rattle.fastbloom_c.specs.contracts.words.RawWords as C
+use Rattle.fastbloom_c.specs.contracts.passed_words.RawWords as C
 
 abbrev pub words_of : Ptr → ℕ → Val
 words_of p n = vstruct (vcons (ptr_val p) (vcons (vint w64 n) vnil))
@@ -19,9 +13,9 @@ words_of p n = vstruct (vcons (ptr_val p) (vcons (vint w64 n) vnil))
 abbrev pub Data : RattleType
 Data = Struct (shape C.the_type)
 
-pub words_told : (p : Ptr) (n : ℕ) (vs : List Val) → Is Data (p, (n, tt)) vs → vs ≡ words_of p n ∷
+pub words_known : (p : Ptr) (n : ℕ) (vs : List Val) → Is Data (p, (n, tt)) vs → vs ≡ words_of p n ∷
     []
-words_told p n vs is = is.1.0 ∙ ap (λ (ws : List Val). vstruct (of_list (ws ++ (is.0.1.0 ++ [])))
+words_known p n vs is = is.1.0 ∙ ap (λ (ws : List Val). vstruct (of_list (ws ++ (is.0.1.0 ++ [])))
     ∷ []) is.1.1.0 ∙ ap (λ (ws : List Val). vstruct (of_list (ptr_val p ∷ (ws ++ []))) ∷ [])
     is.1.1.1.0.0
 

@@ -57,7 +57,7 @@ line_words-part = refl
 line_words-most : line_words_refusal (2 ^ 58 - 8) ≡ None
 line_words-most = refl
 
--- too many words are told before a part of a line
+-- too many words are reported before a part of a line
 line_words-too_many : line_words_refusal (2 ^ 58 + 1) ≡ Some TooManyWords
 line_words-too_many = refl
 

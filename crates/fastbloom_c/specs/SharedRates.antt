@@ -1,4 +1,5 @@
--- What is told of words that threads share, by their bits as they were loaded. This project's own.
+-- What is reported about words that threads share, by their bits as they were loaded. This
+-- project's own.
 use Rattle.std.specs.Prelude.{ℕ, ◌*◌}
 use Rattle.bloom_parts.specs.Estimates.{EstimatesItems}
 use Rattle.bloom_parts.specs.FalsePositives.{BoundsPositives}

@@ -16,7 +16,7 @@ pub mod shared;
 pub mod shared_many;
 
 use crate::texts::fastbloom_hash;
-use bloom_blocked::words::{LINE, contains_hash, insert_hash, line_start};
+use bloom_blocked::by_hash::{LINE, contains_hash, insert_hash, line_start};
 
 /// The line of a hash: a number from 0 on, which stands for the words `8 * line` to `8 * line + 7`.
 ///

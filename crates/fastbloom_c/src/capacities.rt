@@ -13,7 +13,7 @@ use bloom_parts::math::{Rate, capacity};
 /// the rate is zero.
 #[unsafe(no_mangle)]
 pub extern "C" fn fastbloom_capacity(num_words: usize, num_hashes: u32, num: u64, den: u64) -> usize
-    ensures told { MakeFilter num_words → 0 < num → 0 < den
+    ensures capacity { MakeFilter num_words → 0 < num → 0 < den
         → IsCapacity (64 * num_words) (max 1 num_hashes) num den result }
     ensures no_words { (MakeFilter num_words → ⊥) → result ≡ 0 }
     ensures no_rate { num * den ≡ 0 → result ≡ 0 }

@@ -26,7 +26,7 @@ pub extern "C" fn fastbloom_rate_bounds(
     high: &mut u64,
 ) -> u8
     ensures code { result ≡ file_code_or_zero (words_refusal num_words) }
-    ensures told { result ≡ 0 → TellsPart (λ bracket. HoldsFalsePositives bracket (64 * num_words)
+    ensures bounds { result ≡ 0 → TellsPart (λ bracket. HoldsFalsePositives bracket (64 * num_words)
         (max 1 num_hashes * items) (max 1 num_hashes)) low.new high.new }
     // The bounds are exactly these.
     ensures low { result ≡ 0 → low.new
@@ -73,7 +73,7 @@ pub extern "C" fn fastbloom_rate_now(
     high: &mut u64,
 ) -> bool
     ensures done { IsTrue result ↔ ((1 ≤ length words.now) × (length words.now < 2 ^ 58)) }
-    ensures told { IsTrue result → TellsPart
+    ensures bounds { IsTrue result → TellsPart
         (BoundsPositives (64 * length words.now) (max 1 num_hashes) (ones_of words.now))
         low.new high.new }
     // A refusal tells nothing.

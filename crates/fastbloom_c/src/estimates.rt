@@ -98,7 +98,7 @@ pub extern "C" fn fastbloom_estimate(
     high: &mut usize,
 ) -> bool
     ensures done { IsTrue result ↔ ((1 ≤ length words.now) × (length words.now < 2 ^ 58)) }
-    ensures told { IsTrue result → Tells
+    ensures bounds { IsTrue result → Tells
         (EstimatesItems (64 * length words.now) (max 1 num_hashes) (ones_of words.now))
         low.new high.new }
     // A refusal tells nothing.
@@ -129,7 +129,7 @@ pub extern "C" fn fastbloom_estimate_union(
 ) -> bool
     ensures done { IsTrue result ↔ ((1 ≤ length words.now) × (length words.now < 2 ^ 58)
         × (length words.now ≡ length other.now)) }
-    ensures told { IsTrue result → Tells
+    ensures bounds { IsTrue result → Tells
         (EstimatesItems (64 * length words.now) (max 1 num_hashes)
         (ones_of_either words.now other.now)) low.new high.new }
     // A refusal tells nothing.
@@ -160,7 +160,7 @@ pub extern "C" fn fastbloom_estimate_common(
 ) -> bool
     ensures done { IsTrue result ↔ ((1 ≤ length words.now) × (length words.now < 2 ^ 58)
         × (length words.now ≡ length other.now)) }
-    ensures told { IsTrue result → Tells
+    ensures bounds { IsTrue result → Tells
         (EstimatesCommon (64 * length words.now) (max 1 num_hashes) (ones_of words.now)
         (ones_of other.now) (ones_of_either words.now other.now)) low.new high.new }
     // A refusal tells nothing.
@@ -190,7 +190,7 @@ pub extern "C" fn fastbloom_jaccard(
 ) -> bool
     ensures done { IsTrue result ↔ ((1 ≤ length words.now) × (length words.now < 2 ^ 58)
         × (length words.now ≡ length other.now)) }
-    ensures told { IsTrue result → TellsPart
+    ensures bounds { IsTrue result → TellsPart
         (EstimatesLikeness (64 * length words.now) (max 1 num_hashes) (ones_of words.now)
         (ones_of other.now) (ones_of_either words.now other.now)) low.new high.new }
     // A refusal tells nothing.

@@ -2,7 +2,7 @@
 ghost use Rattle.std.specs.Prelude.{◌≡◌};
 ghost use Rattle.fastbloom_c.specs.Passed.{MakeFilter, vector_of};
 
-use crate::words::RawWords;
+use crate::passed_words::RawWords;
 use bloom_parts::bit_vector::{Turn, TurnWords};
 use std::marker::Model;
 
@@ -48,30 +48,35 @@ impl<'a> TurnWords for LentWords<'a> {
     }
 
     #[inline(always)]
+    #[tactic(auto, using(bloom_parts::specs::Made::made_by_turn))]
     fn load_in_turn(&self, turn: &mut Turn, word: usize) -> u64 {
         turn.pass();
         self.words.load(word)
     }
 
     #[inline(always)]
+    #[tactic(auto, using(bloom_parts::specs::Made::made_by_turn))]
     fn fetch_or(&self, turn: &mut Turn, word: usize, mask: u64) -> u64 {
         turn.pass();
         self.words.fetch_or(word, mask)
     }
 
     #[inline(always)]
+    #[tactic(auto, using(bloom_parts::specs::Made::made_by_turn))]
     fn fetch_and(&self, turn: &mut Turn, word: usize, mask: u64) -> u64 {
         turn.pass();
         self.words.fetch_and(word, mask)
     }
 
     #[inline(always)]
+    #[tactic(auto, using(bloom_parts::specs::Made::made_by_turn))]
     fn store_zero(&self, turn: &mut Turn, word: usize) {
         turn.pass();
         self.words.store_zero(word);
     }
 
     #[inline(always)]
+    #[tactic(auto, using(bloom_parts::specs::Made::made_by_turn))]
     fn swap_zero(&self, turn: &mut Turn, word: usize) -> u64 {
         turn.pass();
         self.words.swap_zero(word)

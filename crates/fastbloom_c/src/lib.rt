@@ -8,7 +8,8 @@
 //! - `hashes`, `many`, `texts`, `whole`: calls by hash, by many, by bytes, and on all words.
 //! - `items`, `pieces`: the hashes of many items, and of bytes that come in pieces.
 //! - `files`: heads of files, and seals.
-//! - `words`, `lent`: words at a pointer, with their atomic operations, and lent to steps in turn.
+//! - `passed_words`, `lent`: words at a pointer, with their atomic operations, and lent to steps in
+//!   turn.
 //! - `shared`, `shared_many`, `shared_whole`: the calls on such words.
 //! - `blocked`: all calls on blocked filters, plain and shared.
 #![tactic(auto)]
@@ -22,6 +23,7 @@ pub mod hashes;
 pub mod items;
 pub mod lent;
 pub mod many;
+pub mod passed_words;
 pub mod pieces;
 pub mod plans;
 pub mod rates;
@@ -31,4 +33,3 @@ pub mod shared_rates;
 pub mod shared_whole;
 pub mod texts;
 pub mod whole;
-pub mod words;

@@ -12,8 +12,8 @@ ghost use Rattle.fastbloom_c.specs.Shared.{MakesInsert, MakesLook};
 ghost use Rattle.fastbloom_c.specs.Passed.{MakeFilter, vector_of};
 
 use crate::lent::LentWords;
+use crate::passed_words::{PassedWords, RawWords};
 use crate::texts::fastbloom_hash;
-use crate::words::{PassedWords, RawWords};
 use bloom_parts::bit_vector::MAX_WORDS;
 use bloom_steps::calls::{contains_hash, insert_hash};
 

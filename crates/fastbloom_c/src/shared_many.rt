@@ -5,8 +5,8 @@ ghost use Rattle.fastbloom_c.specs.Passed.{MakeFilter, vector_of};
 
 use crate::lent::LentWords;
 use crate::many::have_room;
+use crate::passed_words::{PassedWords, RawWords};
 use crate::shared::{found_hashes, make_filter};
-use crate::words::{PassedWords, RawWords};
 use bloom_parts::bit_vector::Turn;
 use bloom_parts::slices::clear;
 use bloom_parts::slices::many::turn_on_where;
@@ -103,8 +103,8 @@ fn insert_each_telling(words: &RawWords, num_hashes: u32, hashes: &[u64], fresh:
     let mut turn = Turn::first();
     let mut i: usize = 0;
     'hashes: for hash in hashes {
-        let was_on = insert_in_turn(&LentWords::new(words), &mut turn, num_hashes, *hash);
-        turn_on_where(!was_on, fresh, i);
+        let was_set = insert_in_turn(&LentWords::new(words), &mut turn, num_hashes, *hash);
+        turn_on_where(!was_set, fresh, i);
         i += 1;
     }
 }

@@ -7,8 +7,8 @@ ghost use Rattle.fastbloom_c.specs.SharedRates.{BoundsWords, EstimatesWords};
 
 use crate::estimates::tell;
 use crate::lent::LentWords;
+use crate::passed_words::{PassedWords, RawWords};
 use crate::shared::make_filter;
-use crate::words::{PassedWords, RawWords};
 use bloom_parts::math::{Bracket, Estimate, estimated_items, false_pos_of_ones};
 use bloom_steps::calls::count_ones;
 
@@ -48,7 +48,7 @@ pub extern "C" fn fastbloom_shared_rate_now(
     high: &mut u64,
 ) -> bool
     ensures done { IsTrue result ↔ MakeFilter words.len }
-    ensures told { IsTrue result → TellsPart
+    ensures bounds { IsTrue result → TellsPart
         (BoundsWords (vector_of words.at words.len) (max 1 num_hashes)) low.new high.new }
     // A refusal tells nothing.
     ensures refused_low { result ≡ false → low.new ≡ 0 }
@@ -77,7 +77,7 @@ pub extern "C" fn fastbloom_shared_estimate(
     high: &mut usize,
 ) -> bool
     ensures done { IsTrue result ↔ MakeFilter words.len }
-    ensures told { IsTrue result → Tells
+    ensures bounds { IsTrue result → Tells
         (EstimatesWords (vector_of words.at words.len) (max 1 num_hashes)) low.new high.new }
     // A refusal tells nothing.
     ensures refused_low { result ≡ false → low.new ≡ 0 }

@@ -6,8 +6,8 @@ ghost use Rattle.bloom_steps.specs.declared.steps.vocabulary.Call.TheVariants as
 ghost use Rattle.fastbloom_c.specs.Passed.{MakeFilter, vector_of};
 
 use crate::lent::LentWords;
+use crate::passed_words::PassedWords;
 use crate::shared::make_filter;
-use crate::words::PassedWords;
 use bloom_steps::calls::{clear, count_ones, intersect, load_into, take_into, union};
 
 /// Clears every position, one word after the other, and returns whether there are words.

@@ -1,6 +1,6 @@
 //! What both filters return from a call that takes no memory.
 use crate::making::Pair;
-use crate::scene::Item;
+use crate::scripted::Item;
 
 /// Whether the insert of a hash returns this.
 pub(crate) fn insert_hash(pair: &mut Pair, hash: u64, said: bool) -> bool {

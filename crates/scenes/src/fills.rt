@@ -8,8 +8,8 @@ use std::sync::Arc;
 use std::sync::atomic::{AtomicU64, Ordering};
 use std::thread::{Threads, yield_now};
 
-/// A gate that counts the workers, and keeps a bit for the number of each of the first 64. Workers
-/// 0 and 1 each look for those that are awaited, for at most 10,000,000 turns.
+/// A gate that counts the workers, and keeps a bit for the number of each of the first 64. Each of
+/// these looks for those that are awaited, for at most 1,000,000 turns.
 #[derive(Drop)]
 pub(crate) struct Watching {
     pub(crate) awaited: u64,
@@ -18,29 +18,36 @@ pub(crate) struct Watching {
     pub(crate) met: AtomicU64,
 }
 
-/// A gate that no worker passed yet, for this many workers. The first two await one another.
+// A bit for each of this many numbers, up to 64.
+fn bits_below(count: usize) -> u64 {
+    if count < 64 {
+        !(u64::MAX << count)
+    } else {
+        u64::MAX
+    }
+}
+
+/// A gate that no worker passed yet, for this many workers. The first 64 await one another.
 pub(crate) fn gate_for(workers: usize) -> Watching {
     Watching {
-        awaited: if workers < 2 { 1 } else { 3 },
+        awaited: bits_below(workers),
         passes: AtomicU64::new(0),
         numbers: AtomicU64::new(0),
         met: AtomicU64::new(0),
     }
 }
 
-// Two workers can meet only while both run. Each turn lets other threads run, since the other
-// worker may have no processor yet. Without that, 1 run in 600 failed: all its turns were over
-// before the other worker came.
+// Workers can meet only while all run. Each turn lets other threads run, since another worker may
+// have no processor yet. Without that, 1 run in 600 failed: all its turns were over before the
+// other worker came.
 impl Gate for Watching {
     fn pass(&self, worker: usize) {
         self.passes.fetch_add(1, Ordering::SeqCst);
-        if worker < 64 {
-            self.numbers.fetch_or(1 << worker, Ordering::SeqCst);
-        }
-        if worker >= 2 {
+        if worker >= 64 {
             return;
         }
-        'turns: for _ in 0..10_000_000 {
+        self.numbers.fetch_or(1 << worker, Ordering::SeqCst);
+        'turns: for _ in 0..1_000_000 {
             if self.numbers.load(Ordering::SeqCst) & self.awaited == self.awaited {
                 self.met.fetch_add(1, Ordering::SeqCst);
                 return;
@@ -60,21 +67,16 @@ pub(crate) fn gate_of(alloc: Global, workers: usize) -> Result<Seen, FilterError
     Ok((gate, seen))
 }
 
-// Whether this many workers passed a gate once each, by their numbers, and the first two while both
-// ran.
+// Whether this many workers passed a gate once each, by their numbers, and the first 64 while all
+// of these ran.
 fn saw_all(seen: &Watching, count: usize) -> bool {
-    let numbers = if count < 64 {
-        !(u64::MAX << count)
-    } else {
-        u64::MAX
-    };
     (seen.passes.load(Ordering::SeqCst) == count as u64)
-        & (seen.numbers.load(Ordering::SeqCst) == numbers)
-        & (seen.met.load(Ordering::SeqCst) == count.min(2) as u64)
+        & (seen.numbers.load(Ordering::SeqCst) == bits_below(count))
+        & (seen.met.load(Ordering::SeqCst) == count.min(64) as u64)
 }
 
 // A filter that is filled by a worker for each part, and whether each worker passed the gate once,
-// by its number, and the first two while both ran.
+// by its number, and the first 64 while all of these ran.
 fn filled<R: Threads>(
     rt: &R,
     alloc: Global,

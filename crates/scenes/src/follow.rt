@@ -1,6 +1,6 @@
 //! Follows scripted tests: after each line both filters have the same words, hashes and hasher.
 use crate::making::{Pair, Refused, are_alike, have_words, pair_of, plain_of, shared_of};
-use crate::scene::{Line, Make, Op, Scene, Size};
+use crate::scripted::{Line, Make, Op, ScriptedTest, Size};
 use crate::telling::{tell_named, tell_row};
 use crate::{answers, memory, rows};
 use fastbloom::FilterError;
@@ -34,6 +34,7 @@ fn holds(alloc: Global, pair: &mut Pair, line: &Line) -> Result<bool, Refused> {
             Ok(*said & answers::insert_between(pair, *hash, *first, *second))
         }
         Op::Meet(words, unites) => memory::meet(alloc, pair, words, *unites, *said),
+        Op::Show => Ok(memory::show(alloc, pair) == *said),
         Op::Clone => said_so(*said, memory::copy(alloc, pair)),
         Op::Cross(by_text) => said_so(*said, memory::cross(alloc, pair, *by_text)),
         Op::Take => said_so(*said, memory::take(alloc, pair)),
@@ -74,20 +75,20 @@ pub(crate) fn follow(alloc: Global, make: &Make, lines: &[Line]) -> Result<Optio
     }
 }
 
-// Whether each line of a scripted test returns what it says. If not, test and line are told.
-fn holds_true(rt: &HostRuntime, scene: &Scene) -> bool {
-    match follow(rt.alloc(), &scene.make, scene.lines) {
+// Whether each line of a scripted test returns what it says. If not, test and line are reported.
+fn holds_true(rt: &HostRuntime, test: &ScriptedTest) -> bool {
+    match follow(rt.alloc(), &test.make, test.lines) {
         Ok(None) => true,
-        Ok(Some(line)) => tell_named(rt, scene.name, false) | tell_row(rt, line, false),
-        Err(refused) => tell_named(rt, scene.name, false) | tell_named(rt, refused.call, false),
+        Ok(Some(line)) => tell_named(rt, test.name, false) | tell_row(rt, line, false),
+        Err(refused) => tell_named(rt, test.name, false) | tell_named(rt, refused.call, false),
     }
 }
 
 #[test]
-fn both_filters_answer_each_scene_as_said(rt: HostRuntime) {
-    for scenes in rows::all() {
-        for scene in scenes {
-            assert!(rt; holds_true(&rt, scene));
+fn both_filters_answer_each_scripted_test_as_said(rt: HostRuntime) {
+    for tests in rows::all() {
+        for test in tests {
+            assert!(rt; holds_true(&rt, test));
         }
     }
 }

@@ -1,6 +1,6 @@
 //! Tests of the filters, of their parts, and of the programs' engines: what no contract says.
 //!
-//! - `scene`, `rows`, `making`, `follow`: scripted tests. A row says how a plain and a shared
+//! - `scripted`, `rows`, `making`, `follow`: scripted tests. A row says how a plain and a shared
 //!   filter are made, and what both return from the same calls; after each call all words are
 //!   compared.
 //! - `hashing`, `numbers`, `estimates`, `steps`: values from outside, or worked out by hand.
@@ -14,9 +14,9 @@
 
 // A scripted test: its name, how its filters are made, and its lines.
 #[cfg(test)]
-macro_rules! scene {
+macro_rules! scripted_test {
     ($name:expr, $make:expr, $($line:expr),+ $(,)?) => {
-        Scene {
+        ScriptedTest {
             name: $name,
             make: $make,
             lines: &[$($line),+],
@@ -61,7 +61,7 @@ mod rotating;
 #[cfg(test)]
 mod rows;
 #[cfg(test)]
-mod scene;
+mod scripted;
 #[cfg(test)]
 mod seated;
 #[cfg(test)]

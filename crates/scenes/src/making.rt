@@ -1,5 +1,5 @@
 //! How both filters of a scripted test are made, and whether they are alike.
-use crate::scene::{Make, Size};
+use crate::scripted::{Make, Size};
 use fastbloom::{
     AtomicBloomFilter, AtomicBuilderWithBits, BloomFilter, BuilderWithBits, FilterError, Rate,
 };

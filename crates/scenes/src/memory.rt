@@ -2,7 +2,7 @@
 mod data;
 
 use crate::making::{Pair, Refused, are_alike, have_words, named, pair_of, paired};
-use crate::scene::{Make, Size};
+use crate::scripted::{Make, Size};
 pub(crate) use data::cross;
 use fastbloom::{AtomicBloomFilter, BloomFilter, Command};
 use std::alloc::Global;
@@ -91,6 +91,12 @@ pub(crate) fn compare(
         }
         Err(refused) => Err(refused),
     }
+}
+
+/// Whether both filters are shown.
+pub(crate) fn show(alloc: Global, pair: &Pair) -> bool {
+    let Pair { plain, shared } = pair;
+    format!(in alloc; "{plain:?} {shared:?}").is_ok()
 }
 
 // Copies of both filters.

@@ -1,16 +1,17 @@
-//! The tables of scenes. Their values come from the definitions, by hand or by a model in Python.
-use crate::scene::Op::{Cross, Extend, Finds};
-use crate::scene::Size::{Expected, Hashes};
-use crate::scene::{Line, Make, Scene};
+//! The tables of scripted tests. Their values come from the definitions, by hand or by a model in
+//! Python.
+use crate::scripted::Op::{Cross, Extend, Finds};
+use crate::scripted::Size::{Expected, Hashes};
+use crate::scripted::{Line, Make, ScriptedTest};
 use fastbloom::FilterError;
 
 mod by_hash;
 mod items;
 mod sets;
 
-/// Every scene, by tables. A check takes longer for one long table than for two of half its length,
-/// so each table is of one subject.
-pub(crate) fn all() -> [&'static [Scene]; 6] {
+/// Every scripted test, by tables. A check takes longer for one long table than for two of half its
+/// length, so each table is of one subject.
+pub(crate) fn all() -> [&'static [ScriptedTest]; 6] {
     [
         by_hash::HASHES,
         by_hash::CALLS,

@@ -152,7 +152,7 @@ fn is_kept(alloc: Global, row: &Seating) -> Result<bool, FilterError> {
     Ok(is_right & are_words(filter.close(alloc, last), row.closed))
 }
 
-// Whether a filter answers and ends as its row says. If not, its name is told.
+// Whether a filter answers and ends as its row says. If not, its name is reported.
 fn is_right(rt: &HostRuntime, row: &Seating) -> bool {
     tell_named(rt, row.name, matches!(is_kept(rt.alloc(), row), Ok(true)))
 }

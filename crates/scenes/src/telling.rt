@@ -4,7 +4,7 @@ use fastbloom::FilterError;
 use std::alloc::Global;
 use std::fmt::Display;
 
-/// Whether a row is right. One that isn't is told.
+/// Whether a row is right. One that isn't is reported.
 pub(crate) fn tell_row(rt: &HostRuntime, row: usize, is_right: bool) -> bool {
     if !is_right {
         let _told = eprintln!(rt; "row {row}");
@@ -12,7 +12,7 @@ pub(crate) fn tell_row(rt: &HostRuntime, row: usize, is_right: bool) -> bool {
     is_right
 }
 
-/// Whether what has this name is right. It is told if it isn't.
+/// Whether what has this name is right. It is reported if it isn't.
 pub(crate) fn tell_named(rt: &HostRuntime, name: &str, is_right: bool) -> bool {
     if !is_right {
         let _told = eprintln!(rt; "{name}");

@@ -9,8 +9,8 @@ use std::fs;
 use std::rt::Files;
 use summaries_engine::{AnyFilter, Form, Shelf, Stop, load, unread};
 
-/// The filter of a file, or of standard input, by its name as it is told, and its form. It may have
-/// at most this many hashes.
+/// The filter of a file, or of standard input, by its name as it is reported, and its form. It may
+/// have at most this many hashes.
 ///
 /// # Errors
 /// Out of memory, and where the file can't be read, or holds no filter, or one with more hashes;

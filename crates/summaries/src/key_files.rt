@@ -9,7 +9,7 @@ use std::fs;
 use std::rt::Files;
 use summaries_engine::{Inputs, Stop, unread};
 
-/// The name of standard input, as it is told.
+/// The name of standard input, as it is reported.
 pub const STANDARD: &str = "standard input";
 
 /// How an input is called. A file that has the name of standard input is called by its folder.

@@ -4,7 +4,7 @@
 //! - `tasks`: what each command does, by `summaries_engine`.
 //! - `key_files`, `form`: files of keys, and filters in files.
 //! - `progress`: inputs whose keys are counted, as a terminal is told.
-//! - `telling`: what is told, and the statuses.
+//! - `telling`: what is reported, and the statuses.
 #![tactic(auto)]
 
 mod command_line;
@@ -23,7 +23,7 @@ use std::thread::Threads;
 use summaries_engine::{Stop, written};
 use telling::{BAD, DONE, tell, tell_output, tell_stop};
 
-// The status of what came of a task, and what is told of it.
+// The status of what came of a task, and what is reported about it.
 fn status_of<R: Eprint>(rt: &R, done: Result<(), Stop>) -> u8 {
     match done {
         Ok(()) => DONE,

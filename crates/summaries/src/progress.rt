@@ -16,7 +16,7 @@ pub struct Counted<'a, R, I> {
     pub keys: &'a Cell<u64>,
     /// The byte that ends a key.
     pub end: u8,
-    /// Whether it is told at all.
+    /// Whether it is reported at all.
     pub is_on: bool,
 }
 

@@ -106,7 +106,7 @@ fn run_unite<R: Files + Input + AllocGlobal, W: Write>(
     unite_files(rt, matches, names.as_slice(), output)
 }
 
-// What is told of a filter, in lines or, for scripts, as JSON.
+// What is reported about a filter, in lines or, for scripts, as JSON.
 fn facts_in(
     alloc: Global,
     filter: &AnyFilter,
@@ -121,7 +121,7 @@ fn facts_in(
     }
 }
 
-// Prints what is told of filters.
+// Prints what is reported about filters.
 fn print_facts<R: Print>(rt: &R, facts: &str) -> Result<(), Stop> {
     written(print!(rt; "{facts}"), "the facts can't be written")
 }

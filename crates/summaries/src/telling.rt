@@ -1,5 +1,5 @@
-//! What is told on standard error, and the statuses. Where standard error can't be written, nothing
-//! is told, and the status stays.
+//! What is reported on standard error, and the statuses. Where standard error can't be written,
+//! nothing is reported, and the status stays.
 
 use std::fmt::Display;
 use summaries_engine::Stop;

@@ -12,8 +12,8 @@ use Rattle.fastbloom.specs.Filter.{contains}
 use Rattle.lines.specs.Lines.{lines_by}
 use Rattle.lines.specs.Reading.{AreShort}
 use Rattle.summaries_engine.specs.declared.kinds.AnyFilter.TheVariants.{Classic}
-use Rattle.summaries_engine.specs.declared.answers.Told.TheVariants.{Found, Absent}
-use Rattle.summaries_engine.specs.Answers.{IsKeyed, HashesAll, told_text, AnswersAll}
+use Rattle.summaries_engine.specs.declared.answers.Wanted.TheVariants.{Found, Absent}
+use Rattle.summaries_engine.specs.Answers.{IsKeyed, HashesAll, wanted_text, AnswersAll}
 use Rattle.summaries_engine.specs.Summaries.{hash_in}
 use Rattle.summaries_engine.proofs.SummaryFacts.{IsFilter, hash-a, hash-b, hash-in}
 
@@ -78,20 +78,20 @@ found-b f is =
 
 -- the second of "b" and "a" is written, with an end
 text-a : (f : DefaultFilter) → IsFilter f 268500992 0
-    → told_text (Classic f) Found 10 ((98 ∷ []) ∷ (97 ∷ []) ∷ []) ≡ 97 ∷ 10 ∷ []
+    → wanted_text (Classic f) Found 10 ((98 ∷ []) ∷ (97 ∷ []) ∷ []) ≡ 97 ∷ 10 ∷ []
 text-a f is = rw (found-b f is, found-a f is) refl
 
--- of the same keys the first is told as absent
+-- of the same keys the first is written as absent
 text-absent : (f : DefaultFilter) → IsFilter f 268500992 0
-    → told_text (Classic f) Absent 10 ((98 ∷ []) ∷ (97 ∷ []) ∷ []) ≡ 98 ∷ 10 ∷ []
+    → wanted_text (Classic f) Absent 10 ((98 ∷ []) ∷ (97 ∷ []) ∷ []) ≡ 98 ∷ 10 ∷ []
 text-absent f is = rw (found-b f is, found-a f is) refl
 
 -- a key is written with a zero byte where that ends keys
 text-zero : (f : DefaultFilter) → IsFilter f 268500992 0
-    → told_text (Classic f) Found 0 ((98 ∷ []) ∷ (97 ∷ []) ∷ []) ≡ 97 ∷ 0 ∷ []
+    → wanted_text (Classic f) Found 0 ((98 ∷ []) ∷ (97 ∷ []) ∷ []) ≡ 97 ∷ 0 ∷ []
 text-zero f is = rw (found-b f is, found-a f is) refl
 
--- a key that is in may not be told as absent
+-- a key that is in may not be written as absent
 absent-found : (f : DefaultFilter) → IsFilter f 268500992 0
     → AnswersAll (Classic f) Absent 10 (Some (97 ∷ [])) (Some []) (Some []) (Some (97 ∷ 10 ∷ []))
     → ⊥
@@ -99,14 +99,14 @@ unfolding lines_by
 absent-found f is did = none did.keys did.whole.are_lines did.text
   where
     written : (g : DefaultFilter) → IsFilter g 268500992 0
-        → told_text (Classic g) Absent 10 ((97 ∷ []) ∷ []) ≡ []
+        → wanted_text (Classic g) Absent 10 ((97 ∷ []) ∷ []) ≡ []
     written g has = rw (found-a g has) refl
 
     none : (keys : List (List ℕ)) → (97 ∷ []) ∷ [] ≡ keys
-        → 97 ∷ 10 ∷ [] ≡ told_text (Classic f) Absent 10 keys → ⊥
+        → 97 ∷ 10 ∷ [] ≡ wanted_text (Classic f) Absent 10 keys → ⊥
     none keys same text =
         let wrong : 2 ≡ 0 =
-        ap length (text ∙ ap (told_text (Classic f) Absent 10) (sym same) ∙ written f is) in
+        ap length (text ∙ ap (wanted_text (Classic f) Absent 10) (sym same) ∙ written f is) in
         omega (arith, wrong)
 
 -- where a zero byte ends keys, byte 10 is one of the key's
@@ -151,14 +151,14 @@ unfolding lines_by
 answers-less f is did = none did.keys did.whole.are_lines did.text
   where
     written : (g : DefaultFilter) → IsFilter g 268500992 0
-        → told_text (Classic g) Found 10 ((97 ∷ []) ∷ []) ≡ 97 ∷ 10 ∷ []
+        → wanted_text (Classic g) Found 10 ((97 ∷ []) ∷ []) ≡ 97 ∷ 10 ∷ []
     written g has = rw (found-a g has) refl
 
     none : (keys : List (List ℕ)) → (97 ∷ []) ∷ [] ≡ keys
-        → [] ≡ told_text (Classic f) Found 10 keys → ⊥
+        → [] ≡ wanted_text (Classic f) Found 10 keys → ⊥
     none keys same text =
         let wrong : 0 ≡ 2 =
-        ap length (text ∙ ap (told_text (Classic f) Found 10) (sym same) ∙ written f is) in
+        ap length (text ∙ ap (wanted_text (Classic f) Found 10) (sym same) ∙ written f is) in
         omega (arith, wrong)
 
 -- a filter whose hasher has taken in nothing is keyed

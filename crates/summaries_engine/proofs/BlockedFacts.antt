@@ -32,7 +32,7 @@ use Rattle.summaries_engine.specs.declared.kinds.AnyFilter.TheVariants.{Classic,
 use Rattle.summaries_engine.specs.declared.stop.Stop.TheVariants as stop
 use Rattle.summaries_engine.specs.Facts.{blocked_text}
 use Rattle.summaries_engine.specs.Kinds.{HaveSameKind, HaveSameShape, IsFileOfKind, UnitesParts, file_of_kind, has_hash, parts_of}
-use Rattle.summaries_engine.specs.Loaded.{IsRightIn, head_layout, layout_told}
+use Rattle.summaries_engine.specs.Loaded.{IsRightIn, head_layout, layout_given}
 use Rattle.summaries_engine.specs.Sizes.{HasSeed, IsEmpty, IsShapeOf, IsSizedFor, IsUnsizedFor}
 use Rattle.summaries_engine.specs.Summaries.{IsFilled, IsSummaryOf, IsUnionOf}
 use Rattle.summaries_engine.proofs.SummaryFacts.{hash-a}
@@ -264,17 +264,17 @@ abbrev head : ℕ → List ℕ
 head layout = replicate 48 0 ++ layout ∷ replicate 15 0
 
 -- a whole head tells lines by a 1, and a shorter one tells nothing
-told-lines : layout_told (head 1) ≡ Lines
+layout-lines : layout_given (head 1) ≡ Lines
 unfolding whole_words
-told-lines = refl
+layout-lines = refl
 
-told-whole : layout_told (head 0) ≡ Whole
+layout-whole : layout_given (head 0) ≡ Whole
 unfolding whole_words
-told-whole = refl
+layout-whole = refl
 
-told-short : layout_told (replicate 48 0 ++ 1 ∷ replicate 14 0) ≡ Whole
+layout-short : layout_given (replicate 48 0 ++ 1 ∷ replicate 14 0) ≡ Whole
 unfolding whole_words
-told-short = refl
+layout-short = refl
 
 first-lines : head_layout 64 (head 1) ≡ Lines
 unfolding whole_words

@@ -1,4 +1,4 @@
--- What is told of two filters: cases that hold, and near ones that don't.
+-- What is reported about two filters: cases that hold, and near ones that don't.
 use Rattle.std.proofs.Common.{◌≡◌, ◌^◌, ℕ, inl, inr, List, [], ◌∷◌, ◌++◌, codes, get_or, refl, sym, ap, ◌∙◌, lit≤, arith}
 use Rattle.std.specs.Fmt.{char_count, digits, padded_integral}
 use Rattle.bloom_parts.specs.Alike.{EstimatesEach, IsCommon, IsPartOf}

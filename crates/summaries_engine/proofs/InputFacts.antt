@@ -7,10 +7,10 @@ use Rattle.bloom_parts.specs.Sip.{sip, start, round, absorb, answer, whole_words
 use Rattle.fastbloom.specs.Data.{DefaultFilter}
 use Rattle.lines.specs.Lines.{lines_by}
 use Rattle.lines.specs.Reading.{AreShort, IsReadWholeBy}
-use Rattle.summaries_engine.specs.declared.answers.Told.TheVariants.{Found}
+use Rattle.summaries_engine.specs.declared.answers.Wanted.TheVariants.{Found}
 use Rattle.summaries_engine.specs.declared.kinds.AnyFilter.{AnyFilter}
 use Rattle.summaries_engine.specs.declared.kinds.AnyFilter.TheVariants.{Classic}
-use Rattle.summaries_engine.specs.Answers.{told_text}
+use Rattle.summaries_engine.specs.Answers.{wanted_text}
 use Rattle.summaries_engine.specs.Inputs.{AnswersInputs, HasKeys, HashesInputs, HaveKeys, StopsAt, SummarizesInputs}
 use Rattle.summaries_engine.specs.Summaries.{IsSummaryOf, joined}
 use Rattle.summaries_engine.proofs.SummaryFacts.{IsFilter, at, shape, summary-a}
@@ -130,8 +130,8 @@ summarizes-none f is did = by did.parts did.keys did.summary
     by (part ∷ parts) keys summary = keys
 
 module _ (f : AnyFilter) where
-  -- the reply for "a" is written where it is told
-  answers-first : told_text f Found 10 ((97 ∷ []) ∷ []) ≡ 97 ∷ 10 ∷ []
+  -- the reply for "a" is written where it is wanted
+  answers-first : wanted_text f Found 10 ((97 ∷ []) ∷ []) ≡ 97 ∷ 10 ∷ []
       → AnswersInputs two f Found 10 (codes "j" ∷ []) (Some []) (Some (97 ∷ 10 ∷ []))
   answers-first told = record {
     parts = ((97 ∷ []) ∷ []) ∷ [];
@@ -144,6 +144,6 @@ module _ (f : AnyFilter) where
   answers-none is = by is.parts is.keys is.text
     where
       by : (parts : List (List (List ℕ))) → HaveKeys two 10 [] parts
-          → 97 ∷ 10 ∷ [] ≡ told_text f Found 10 (joined parts) → ⊥
+          → 97 ∷ 10 ∷ [] ≡ wanted_text f Found 10 (joined parts) → ⊥
       by [] keys text = let wrong : 2 ≡ 0 = ap length text in omega (arith, wrong)
       by (part ∷ parts) keys text = keys

@@ -8,14 +8,14 @@ use Rattle.bloom_parts.specs.Sip.{sip}
 use Rattle.summaries_engine.specs.declared.kinds.AnyFilter.{AnyFilter}
 use Rattle.lines.proofs.WritingLemmas.{part-second}
 use Rattle.lines.specs.Writing.{AppendsPart}
-use Rattle.summaries_engine.specs.declared.answers.Told.{Told}
+use Rattle.summaries_engine.specs.declared.answers.Wanted.{Wanted}
 use Rattle.summaries_engine.specs.declared.stop.Stop.{Stop}
-use Rattle.summaries_engine.specs.Answers.{AnswersAll, HashesAll, told_text}
+use Rattle.summaries_engine.specs.Answers.{AnswersAll, HashesAll, wanted_text}
 use Rattle.summaries_engine.specs.Fillers.{HasTaken}
 use Rattle.summaries_engine.specs.Inputs.{HasKeys, HashesInputs, HaveKeys, Lies, StopsAsking, StopsAt, StopsAnswered, StopsHashes, StopsInput}
 use Rattle.summaries_engine.specs.Stops.{StopsAnswers, StopsHashing}
 use Rattle.summaries_engine.specs.Summaries.{joined}
-use Rattle.summaries_engine.proofs.AskingLemmas.{told_text-append}
+use Rattle.summaries_engine.proofs.AskingLemmas.{wanted_text-append}
 
 -- all keys of one input more
 HaveKeys-more : (lies : Lies) (end : ℕ) (names : List (List ℕ)) (name : List ℕ)
@@ -49,34 +49,34 @@ pub record AreTaken {F : Type 0} (took : F → List ℕ → F → Type 0) (lies 
   pub taken : HasTaken took first now waits hashes
 
 -- the inputs of the first of these names were answered
-pub record AreAnswered (lies : Lies) (f : AnyFilter) (told : Told) (end : ℕ)
+pub record AreAnswered (lies : Lies) (f : AnyFilter) (wanted : Wanted) (end : ℕ)
     (names : List (List ℕ)) (count : ℕ) (from to : Option (List ℕ)) : Type 0 where
   pub parts : List (List (List ℕ))
   pub keys : HaveKeys lies end (take count names) parts
-  pub text : Appends from to (told_text f told end (joined parts))
+  pub text : Appends from to (wanted_text f wanted end (joined parts))
 
 -- answers to keys behind those to earlier keys
-answers-after : (f : AnyFilter) (told : Told) (end : ℕ) (name : List ℕ)
+answers-after : (f : AnyFilter) (wanted : Wanted) (end : ℕ) (name : List ℕ)
     (earlier : List (List ℕ)) (read from mid to : Option (List ℕ)) (stop : Stop)
-    → Appends from mid (told_text f told end earlier)
-    → StopsAnswers f told end name [] read mid to stop
-    → StopsAnswers f told end name earlier read from to stop
-answers-after f told end name earlier read from mid to stop wrote (inl after) = inl (record {
+    → Appends from mid (wanted_text f wanted end earlier)
+    → StopsAnswers f wanted end name [] read mid to stop
+    → StopsAnswers f wanted end name earlier read from to stop
+answers-after f wanted end name earlier read from mid to stop wrote (inl after) = inl (record {
   keys = after.keys;
   first = after.first;
   short = after.short;
-  done = subst (Appends from to) (sym (told_text-append f told end earlier after.keys))
+  done = subst (Appends from to) (sym (wanted_text-append f wanted end earlier after.keys))
       (Appends-trans from mid to _ _ wrote after.done);
   reason = after.reason;
 })
-answers-after f told end name earlier read from mid to stop wrote (inr cut) = inr (record {
+answers-after f wanted end name earlier read from mid to stop wrote (inr cut) = inr (record {
   keys = cut.keys;
   first = cut.first;
   short = cut.short;
   part = subst (λ text. AppendsPart text from to)
-      (sym (told_text-append f told end earlier cut.keys))
-      (part-second (told_text f told end earlier) (told_text f told end cut.keys) from mid to wrote
-      cut.part);
+      (sym (wanted_text-append f wanted end earlier cut.keys))
+      (part-second (wanted_text f wanted end earlier) (wanted_text f wanted end cut.keys) from mid
+      to wrote cut.part);
   says = cut.says;
 })
 
@@ -149,11 +149,11 @@ module _ (lies : Lies) (end : ℕ) (names : List (Bor (List ℕ))) (count : ℕ)
   }
 
   -- one input more was answered
-  pub answered-more : {f : AnyFilter} {told : Told} {read left from to more : Option (List ℕ)}
-      → AreAnswered lies f told end (texts names) count from to
-      → lies (get_or names count other).now read → AnswersAll f told end read left to more
-      → AreAnswered lies f told end (texts names) (count + 1) from more
-  answered-more {f = f} {told = told} {read = read} {left = left} {from = from} {to = to}
+  pub answered-more : {f : AnyFilter} {wanted : Wanted} {read left from to more : Option (List ℕ)}
+      → AreAnswered lies f wanted end (texts names) count from to
+      → lies (get_or names count other).now read → AnswersAll f wanted end read left to more
+      → AreAnswered lies f wanted end (texts names) (count + 1) from more
+  answered-more {f = f} {wanted = wanted} {read = read} {left = left} {from = from} {to = to}
       {more = more} so_far there all = record {
         parts = so_far.parts ++ all.keys ∷ [];
         keys = subst (λ l. HaveKeys lies end l (so_far.parts ++ all.keys ∷ [])) (sym next-name)
@@ -166,8 +166,8 @@ module _ (lies : Lies) (end : ℕ) (names : List (Bor (List ℕ))) (count : ℕ)
               short = all.short;
             }));
         text = subst (Appends from more)
-            (sym (ap (told_text f told end) (joined-more so_far.parts all.keys)
-            ∙ told_text-append f told end (joined so_far.parts) all.keys))
+            (sym (ap (wanted_text f wanted end) (joined-more so_far.parts all.keys)
+            ∙ wanted_text-append f wanted end (joined so_far.parts) all.keys))
             (Appends-trans from to more _ _ so_far.text all.text);
       }
 
@@ -207,28 +207,28 @@ module _ (lies : Lies) (end : ℕ) (names : List (Bor (List ℕ))) (count : ℕ)
         (λ keys name. StopsInput lies fails end name stop) (inr (read, there, stopped))
 
     -- asking stops at an input that isn't had
-    pub asking-unopened : {f : AnyFilter} {told : Told} {from to : Option (List ℕ)}
-        → AreAnswered lies f told end (texts names) count from to
+    pub asking-unopened : {f : AnyFilter} {wanted : Wanted} {from to : Option (List ℕ)}
+        → AreAnswered lies f wanted end (texts names) count from to
         → fails (get_or names count other).now stop
-        → StopsAsking lies fails f told end (texts names) from to stop
-    asking-unopened {f = f} {told = told} {from = from} {to = to} so_far failed =
+        → StopsAsking lies fails f wanted end (texts names) from to stop
+    asking-unopened {f = f} {wanted = wanted} {from = from} {to = to} so_far failed =
         stops-at so_far.parts so_far.keys
-        (λ keys name. StopsAnswered lies fails f told end from to keys name stop)
+        (λ keys name. StopsAnswered lies fails f wanted end from to keys name stop)
         (inl (failed, so_far.text))
 
     -- asking stops within an input
-    pub asking-stopped : {f : AnyFilter} {told : Told} {from mid to read : Option (List ℕ)}
-        → AreAnswered lies f told end (texts names) count from mid
+    pub asking-stopped : {f : AnyFilter} {wanted : Wanted} {from mid to read : Option (List ℕ)}
+        → AreAnswered lies f wanted end (texts names) count from mid
         → lies (get_or names count other).now read
-        → StopsAnswers f told end (get_or names count other).now [] read mid to stop
-        → StopsAsking lies fails f told end (texts names) from to stop
-    asking-stopped {f = f} {told = told} {from = from} {mid = mid} {to = to} {read = read} so_far
-        there stopped =
+        → StopsAnswers f wanted end (get_or names count other).now [] read mid to stop
+        → StopsAsking lies fails f wanted end (texts names) from to stop
+    asking-stopped {f = f} {wanted = wanted} {from = from} {mid = mid} {to = to} {read = read}
+        so_far there stopped =
         stops-at so_far.parts so_far.keys
-        (λ keys name. StopsAnswered lies fails f told end from to keys name stop)
+        (λ keys name. StopsAnswered lies fails f wanted end from to keys name stop)
         (inr (
           read,
           there,
-          answers-after f told end (get_or names count other).now
+          answers-after f wanted end (get_or names count other).now
               (joined so_far.parts) read from mid to stop so_far.text stopped,
         ))

@@ -2,11 +2,11 @@
 -- "j" and "k" are there, and none of another name.
 use Rattle.std.proofs.Common.{◌≡◌, ℕ, List, [], ◌∷◌, codes, Option, Some, refl, sym, inl, inr}
 use Rattle.anyhow.specs.declared.error.Error.{Error}
-use Rattle.summaries_engine.specs.declared.answers.Told.TheVariants.{Found}
+use Rattle.summaries_engine.specs.declared.answers.Wanted.TheVariants.{Found}
 use Rattle.summaries_engine.specs.declared.kinds.AnyFilter.{AnyFilter}
 use Rattle.summaries_engine.specs.declared.stop.Stop.{Stop}
 use Rattle.summaries_engine.specs.declared.stop.Stop.TheVariants.{Memory, Output, Worker}
-use Rattle.summaries_engine.specs.Answers.{told_text}
+use Rattle.summaries_engine.specs.Answers.{wanted_text}
 use Rattle.summaries_engine.specs.Inputs.{StopsAsking, StopsBuilding, StopsHashes}
 use Rattle.summaries_engine.specs.Stops.{IsReasonAfter}
 use Rattle.summaries_engine.proofs.InputFacts.{at-none, both, two}
@@ -89,12 +89,12 @@ module _ (f : AnyFilter) where
       Some (97 ∷ []),
       inl (refl, refl),
       inl (stops-none 10 (codes "j") (Some (97 ∷ []))
-          (λ keys. [] ≡ told_text f Found 10 keys) refl),
+          (λ keys. [] ≡ wanted_text f Found 10 keys) refl),
     );
   }
 
   -- or the second input isn't there, once the reply for "a" was written
-  asks-missing : (stop : Stop) → told_text f Found 10 ((97 ∷ []) ∷ []) ≡ 97 ∷ 10 ∷ []
+  asks-missing : (stop : Stop) → wanted_text f Found 10 ((97 ∷ []) ∷ []) ≡ 97 ∷ 10 ∷ []
       → StopsAsking two missing f Found 10 (codes "j" ∷ codes "x" ∷ []) (Some [])
       (Some (97 ∷ 10 ∷ [])) stop
   asks-missing stop told = record {

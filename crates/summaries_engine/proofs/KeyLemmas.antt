@@ -113,13 +113,13 @@ pub taking-end : {F : Type 0} {took : F → List ℕ → F → Type 0} {key : �
     × HashesAll key end read rest hashes more × HasTaken took first now waits more
 taking-end {key = key} {end = end} {read = read} {left = left} {old = old} so_far new rest ends
     first hashes earlier = (
-  hashes ++ map (sip key.0 key.1) so_far.keys,
-  record {
-    keys = so_far.keys;
-    whole = IsReadWhole-from end read (left_of old left) rest new.bytes so_far.keys
-        so_far.has_read.taken ends;
-    short = so_far.has_read.short;
-    hashed = refl;
-  },
-  so_far.taken first hashes earlier,
-)
+      hashes ++ map (sip key.0 key.1) so_far.keys,
+      record {
+        keys = so_far.keys;
+        whole = IsReadWhole-from end read (left_of old left) rest new.bytes so_far.keys
+            so_far.has_read.taken ends;
+        short = so_far.has_read.short;
+        hashed = refl;
+      },
+      so_far.taken first hashes earlier,
+    )

@@ -13,7 +13,7 @@ use Rattle.lines.specs.Writing.{Begins}
 use Rattle.summaries_engine.specs.declared.form.Form.TheVariants.{Sealed, Unsealed, Json}
 use Rattle.summaries_engine.specs.declared.stop.Stop.TheVariants.{Memory, Worker, Input, Bad, Output}
 use Rattle.summaries_engine.specs.Kinds.{IsFileOfKind, parts_of}
-use Rattle.summaries_engine.specs.Loaded.{HasHashesOf, HasManyHashes, HoldsNone, IsInForm, IsRightOf, IsRightWith, IsUnloaded, IsUnread, file_form, hashes_text, layout_told, mark_bytes}
+use Rattle.summaries_engine.specs.Loaded.{HasHashesOf, HasManyHashes, HoldsNone, IsInForm, IsRightOf, IsRightWith, IsUnloaded, IsUnread, file_form, hashes_text, layout_given, mark_bytes}
 use Rattle.summaries_engine.proofs.StopFacts.{says-other}
 
 -- the mark is the name and a zero
@@ -126,11 +126,11 @@ unread-worker (inl (inr (inr none))) = none
 unread-worker (inr many) = many
 
 -- a file with a wrong seal holds no filter
-holds-seal : (bytes : List ℕ) → refusal_in (layout_told bytes) bytes ≡ Some Seal → HoldsNone bytes
+holds-seal : (bytes : List ℕ) → refusal_in (layout_given bytes) bytes ≡ Some Seal → HoldsNone bytes
 holds-seal bytes refused = λ begins. (Seal, refused)
 
 module _ (bytes : List ℕ) (begins : Begins bytes mark_bytes)
-    (good : refusal_in (layout_told bytes) bytes ≡ None) (said : Error) where
+    (good : refusal_in (layout_given bytes) bytes ≡ None) (said : Error) where
   -- a good file holds one
   holds-good : HoldsNone bytes → ⊥
   holds-good none =
@@ -158,7 +158,7 @@ module _ (bytes : List ℕ) (said : Error) where
     says = subst (λ n. HasMessage (Some (hashes_text (codes "a") n 64)) said) (sym more) says;
   })
 
-  -- the filter is that of the bytes, and its own hashes are told
+  -- the filter is that of the bytes, and its own hashes are reported
   hashes-own : (did : HasHashesOf bytes (codes "a") 64 said) → did.form ≡ Sealed
       → IsFileOfKind bytes did.filter
   hashes-own did sealed = (subst (λ form. IsInForm form did.filter bytes) sealed did.is).file

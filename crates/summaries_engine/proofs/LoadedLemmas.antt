@@ -19,7 +19,7 @@ use Rattle.summaries_engine.specs.declared.form.Form.TheVariants.{Json}
 use Rattle.summaries_engine.specs.declared.kinds.AnyFilter.{AnyFilter}
 use Rattle.summaries_engine.specs.declared.kinds.AnyFilter.TheVariants.{Classic, Blocked}
 use Rattle.summaries_engine.specs.Kinds.{IsFileOfKind, layout_of, parts_of}
-use Rattle.summaries_engine.specs.Loaded.{IsInForm, file_form, head_layout, layout_told, mark_bytes}
+use Rattle.summaries_engine.specs.Loaded.{IsInForm, file_form, head_layout, layout_given, mark_bytes}
 
 -- a number of the first bytes is that of all bytes
 number-first : (i : ℕ) (front more : List ℕ) → 8 * i + 8 ≤ length front
@@ -109,7 +109,7 @@ in-file-form (Some all) (Some rest) buffer n f form read file is =
 
 -- the layout that the first bytes tell is that of the whole
 pub layout-first : (all rest : List ℕ) (buffer : List ℕ) (n : ℕ)
-    → HasRead (Some all) (Some rest) buffer n → head_layout n buffer ≡ layout_told all
+    → HasRead (Some all) (Some rest) buffer n → head_layout n buffer ≡ layout_given all
 layout-first all rest buffer n read = by (cases_lt n 64)
   where
     choose : Bool → Bool → Layout
@@ -129,7 +129,7 @@ layout-first all rest buffer n read = by (cases_lt n 64)
     not-whole : (a b : Bool) → a ≡ false → choose a b ≡ Whole
     not-whole a b is = ap (λ x. choose x b) is
 
-    by : (n < 64) ⊎ (64 ≤ n) → head_layout n buffer ≡ layout_told all
+    by : (n < 64) ⊎ (64 ≤ n) → head_layout n buffer ≡ layout_given all
     by (inl fewer) =
         let ended : length rest ≡ 0 = ap length (read.end (omega (arith, fewer, read.room))) in
         not-whole (nat_eq n 64) (nat_eq (number_at buffer 6) 1) (other (eqb_tells n 64))

@@ -9,7 +9,7 @@ use Rattle.anyhow.specs.declared.error.Error.{Error}
 use Rattle.summaries_engine.specs.declared.kinds.AnyFilter.{AnyFilter}
 use Rattle.lines.specs.Lines.{lines_by}
 use Rattle.lines.specs.Reading.{AreShort, IsReadFromBy}
-use Rattle.summaries_engine.specs.declared.answers.Told.{Told}
+use Rattle.summaries_engine.specs.declared.answers.Wanted.{Wanted}
 use Rattle.summaries_engine.specs.declared.stop.Stop.{Stop}
 use Rattle.summaries_engine.specs.declared.stop.Stop.TheVariants.{Memory, Worker, Input, Bad, Output}
 use Rattle.summaries_engine.specs.Refusals.{too_long_text}
@@ -171,7 +171,7 @@ hashing-bad : (end : ℕ) (read : Option (List ℕ)) (said : Error) → error_me
     → StopsHashing end (codes "k") read (Bad said) → ⊥
 hashing-bad end read said told stop = bad-no end read stop.keys said told stop.reason
 
-answers-no : (f : AnyFilter) (which : Told) (end : ℕ) (earlier : List (List ℕ))
+answers-no : (f : AnyFilter) (which : Wanted) (end : ℕ) (earlier : List (List ℕ))
     (read from to : Option (List ℕ)) (said : Error) → error_message said ≡ codes "no"
     → StopsAnswers f which end (codes "k") earlier read from to (Input said) → ⊥
 answers-no f which end earlier read from to said told (inl stop) =

@@ -9,13 +9,13 @@ use Rattle.lines.specs.Reading.{Waiting, KnowsEnd, TakesLongBy, TakesShortBy, Is
 use Rattle.lines.specs.Writing.{AppendsPart}
 use Rattle.lines.proofs.TakenLemmas.{TakesLinesBy, IsReadFrom-taken, IsReadToLong-from}
 use Rattle.lines.proofs.WritingLemmas.{part-second}
-use Rattle.summaries_engine.specs.declared.answers.Told.{Told}
+use Rattle.summaries_engine.specs.declared.answers.Wanted.{Wanted}
 use Rattle.summaries_engine.specs.declared.stop.Stop.{Stop}
 use Rattle.summaries_engine.specs.declared.stop.Stop.TheVariants.{Memory}
-use Rattle.summaries_engine.specs.Answers.{told_text}
+use Rattle.summaries_engine.specs.Answers.{wanted_text}
 use Rattle.summaries_engine.specs.Refusals.{too_long_text}
 use Rattle.summaries_engine.specs.Stops.{IsBad, IsMemory, IsReasonAfter, IsUnreadable, IsUnwritten, Says, StopsAfter, StopsAnswers, StopsHashing, StopsWriting}
-use Rattle.summaries_engine.proofs.AskingLemmas.{IsAnswering, part-whole, told_text-append}
+use Rattle.summaries_engine.proofs.AskingLemmas.{IsAnswering, part-whole, wanted_text-append}
 use Rattle.summaries_engine.proofs.KeyLemmas.{IsTaking, read-next}
 
 -- no line is the first of none
@@ -79,10 +79,10 @@ module _ {end : ℕ} {name : List ℕ} {read left : Option (List ℕ)} {reader :
   }
 
   -- asking stops for a reason why the keys so far aren't taken on
-  pub asking-stops : {f : AnyFilter} {told : Told} {from to : Option (List ℕ)}
-      → IsAnswering f told end read reader left number from to
+  pub asking-stops : {f : AnyFilter} {wanted : Wanted} {from to : Option (List ℕ)}
+      → IsAnswering f wanted end read reader left number from to
       → Why end name read reader left number stop
-      → StopsAnswers f told end name [] read from to stop
+      → StopsAnswers f wanted end name [] read from to stop
   asking-stops so_far why = inl (record {
     keys = so_far.keys;
     first = IsReadFrom-taken end read (left_of reader left) so_far.keys so_far.has_read.taken;
@@ -100,13 +100,13 @@ pub hashing-room : {F : Type 0} {took : F → List ℕ → F → Type 0} {key : 
 hashing-room so_far memory = hashing-stops so_far (why-read (inl memory))
 
 -- the answers so far were written, and a flush of them failed
-pub asking-unflushed : {f : AnyFilter} {told : Told} {end : ℕ}
+pub asking-unflushed : {f : AnyFilter} {wanted : Wanted} {end : ℕ}
     {read left from to more : Option (List ℕ)} {reader : Waiting} {number : ℕ} {stop : Stop}
-    → IsAnswering f told end read reader left number from to → Keeps to more → IsUnwritten stop
-    → StopsWriting f told end [] read from more stop
-asking-unflushed {f = f} {told = told} {end = end} {read = read} {left = left} {from = from}
+    → IsAnswering f wanted end read reader left number from to → Keeps to more → IsUnwritten stop
+    → StopsWriting f wanted end [] read from more stop
+asking-unflushed {f = f} {wanted = wanted} {end = end} {read = read} {left = left} {from = from}
     {to = to} {more = more} {reader = reader} so_far kept says =
-    let text = told_text f told end so_far.keys in record {
+    let text = wanted_text f wanted end so_far.keys in record {
       keys = so_far.keys;
       first = IsReadFrom-taken end read (left_of reader left) so_far.keys so_far.has_read.taken;
       short = so_far.has_read.short;
@@ -115,15 +115,15 @@ asking-unflushed {f = f} {told = told} {end = end} {read = read} {left = left} {
     }
 
 -- a write failed within the answer to the next key
-pub asking-cut : {f : AnyFilter} {told : Told} {end : ℕ} {name : List ℕ}
+pub asking-cut : {f : AnyFilter} {wanted : Wanted} {end : ℕ} {name : List ℕ}
     {read left from to more : Option (List ℕ)} {old : Waiting} {number : ℕ} {key : List ℕ}
-    {stop : Stop} → IsAnswering f told end read old left number from to → (new : Waiting)
+    {stop : Stop} → IsAnswering f wanted end read old left number from to → (new : Waiting)
     (rest : Option (List ℕ))
     → TakesShortBy end old.longest (left_of old left) (left_of new rest) new.line
     → KnowsEnd new.ended rest → new.longest ≡ old.longest → key ≡ new.line
-    → AppendsPart (told_text f told end (key ∷ [])) to more → IsUnwritten stop
-    → StopsAnswers f told end name [] read from more stop
-asking-cut {f = f} {told = told} {end = end} {read = read} {left = left} {from = from} {to = to}
+    → AppendsPart (wanted_text f wanted end (key ∷ [])) to more → IsUnwritten stop
+    → StopsAnswers f wanted end name [] read from more stop
+asking-cut {f = f} {wanted = wanted} {end = end} {read = read} {left = left} {from = from} {to = to}
     {more = more} {old = old} so_far new rest next knows same line part says =
     let keys = so_far.keys in
     let has = read-next end read old new left rest keys so_far.has_read next knows same in
@@ -132,9 +132,9 @@ asking-cut {f = f} {told = told} {end = end} {read = read} {left = left} {from =
       first = IsReadFrom-taken end read (left_of new rest) (keys ++ new.line ∷ []) has.taken;
       short = has.short;
       part = subst (λ text. AppendsPart text from more)
-          (sym (told_text-append f told end keys (new.line ∷ [])))
-          (part-second (told_text f told end keys) (told_text f told end (new.line ∷ [])) from to
-          more so_far.text
-          (subst (λ k. AppendsPart (told_text f told end (k ∷ [])) to more) line part));
+          (sym (wanted_text-append f wanted end keys (new.line ∷ [])))
+          (part-second (wanted_text f wanted end keys) (wanted_text f wanted end (new.line ∷ []))
+          from to more so_far.text
+          (subst (λ k. AppendsPart (wanted_text f wanted end (k ∷ [])) to more) line part));
       says = says;
     })

@@ -1,4 +1,4 @@
--- What is told of a filter: values from outside.
+-- What is reported about a filter: values from outside.
 use Rattle.std.proofs.Common.{◌≡◌, ◌≤◌, ℕ, ◌^◌, ◌-◌, List, [], ◌∷◌, ◌++◌, Option, Some, None, codes, get_or, refl, sym, ap, subst, lit≤, arith}
 use Rattle.std.specs.Prelude.{IfSome}
 use Rattle.std.proofs.lemmas.Option.{none-some}
@@ -107,7 +107,7 @@ rate-all : rate_text (2 ^ 63) (2 ^ 63) ≡ codes "false positive rate: 1.0000000
 unfolding padded_integral digits char_count
 rate-all = refl
 
--- the least rate above zero isn't told as none, nor is the greatest below one told as all
+-- the least rate above zero isn't reported as none, nor is the greatest below one told as all
 rate-least : rate_text 0 1 ≡ codes "false positive rate: 0.000000000 to 0.000000001\n"
 unfolding padded_integral digits char_count
 rate-least = refl
@@ -125,7 +125,7 @@ fresh = record { low = 0; high = 0; words = start 0 0; held = []; count = 0 }
 abbrev pub filter : ℕ → DefaultFilter
 filter word = record { words = word ∷ []; hashes = 2; hasher = record { hasher = fresh } }
 
--- what is told where two of 64 bits are set: (2 / 64)^2 is 1 / 1024
+-- what is reported where two of 64 bits are set: (2 / 64)^2 is 1 / 1024
 abbrev text_of_two : List ℕ
 text_of_two =
     codes "form: file, sealed\nbits: 64\nhashes: 2\nkey: 00000000000000000000000000000000\n"

@@ -131,7 +131,7 @@ text-shape = refl
 text-key : misfit_text difference.Key (codes "b") (codes "a") ≡ codes "b: its key isn't that of a"
 text-key = refl
 
--- the filter that differs lies under the name that is told
+-- the filter that differs lies under the name that is reported
 misfit-lies : (names : List (List ℕ)) (why : Stop) (stop : StopsAtMisfit counted names why)
     → stop.name ≡ (parts_of stop.shard).hashes ∷ []
 misfit-lies names why stop = stop.loaded

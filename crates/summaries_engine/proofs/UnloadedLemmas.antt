@@ -15,7 +15,7 @@ use Rattle.summaries_engine.specs.declared.kinds.AnyFilter.{AnyFilter}
 use Rattle.summaries_engine.specs.declared.stop.Stop.{Stop}
 use Rattle.summaries_engine.specs.declared.stop.Stop.TheVariants.{Memory, Worker, Input, Bad, Output}
 use Rattle.summaries_engine.specs.Kinds.{parts_of}
-use Rattle.summaries_engine.specs.Loaded.{HasHashesOf, IsInForm, IsRightIn, IsRightOf, IsRightWith, IsToldOf, IsUnread, hashes_text, head_layout, mark_bytes}
+use Rattle.summaries_engine.specs.Loaded.{HasHashesOf, IsInForm, IsRightIn, IsRightOf, IsRightWith, IsReportedOf, IsUnread, hashes_text, head_layout, mark_bytes}
 use Rattle.summaries_engine.specs.Stops.{IsBad, IsInput, IsMemory, IsUnreadAs}
 use Rattle.summaries_engine.proofs.LoadedLemmas.{HasRead, layout-first, no-mark}
 
@@ -49,51 +49,51 @@ refusal-of layout bytes error memory input (inr (inr is)) =
     let same : error ≡ file_error.Input is.0 = cc (is.1) in absurd (input is.0 same)
 
 module _ (layout : Layout) (bytes name : List ℕ) where
-  -- what is told of a file's error is right
-  told-right : (error : FileError) (stop : Stop) → IsToldOf name error stop
+  -- what is reported about a file's error is right
+  reported-right : (error : FileError) (stop : Stop) → IsReportedOf name error stop
       → IsReadIn layout bytes (Some error) → IsRightIn layout bytes name stop
-  told-right file_error.NotAFilter stop told read =
+  reported-right file_error.NotAFilter stop told read =
       inr ((_, refusal-of layout bytes _ (λ is. cc) (λ kind is. cc) read), told)
-  told-right file_error.Version stop told read =
+  reported-right file_error.Version stop told read =
       inr ((_, refusal-of layout bytes _ (λ is. cc) (λ kind is. cc) read), told)
-  told-right file_error.HashCount stop told read =
+  reported-right file_error.HashCount stop told read =
       inr ((_, refusal-of layout bytes _ (λ is. cc) (λ kind is. cc) read), told)
-  told-right file_error.EmptyWords stop told read =
+  reported-right file_error.EmptyWords stop told read =
       inr ((_, refusal-of layout bytes _ (λ is. cc) (λ kind is. cc) read), told)
-  told-right file_error.TooManyWords stop told read =
+  reported-right file_error.TooManyWords stop told read =
       inr ((_, refusal-of layout bytes _ (λ is. cc) (λ kind is. cc) read), told)
-  told-right file_error.Cut stop told read =
+  reported-right file_error.Cut stop told read =
       inr ((_, refusal-of layout bytes _ (λ is. cc) (λ kind is. cc) read), told)
-  told-right file_error.TooLong stop told read =
+  reported-right file_error.TooLong stop told read =
       inr ((_, refusal-of layout bytes _ (λ is. cc) (λ kind is. cc) read), told)
-  told-right file_error.Reserved stop told read =
+  reported-right file_error.Reserved stop told read =
       inr ((_, refusal-of layout bytes _ (λ is. cc) (λ kind is. cc) read), told)
-  told-right file_error.Blocked stop told read =
+  reported-right file_error.Blocked stop told read =
       inr ((_, refusal-of layout bytes _ (λ is. cc) (λ kind is. cc) read), told)
-  told-right file_error.NotBlocked stop told read =
+  reported-right file_error.NotBlocked stop told read =
       inr ((_, refusal-of layout bytes _ (λ is. cc) (λ kind is. cc) read), told)
-  told-right file_error.PartOfALine stop told read =
+  reported-right file_error.PartOfALine stop told read =
       inr ((_, refusal-of layout bytes _ (λ is. cc) (λ kind is. cc) read), told)
-  told-right file_error.Seal stop told read =
+  reported-right file_error.Seal stop told read =
       inr ((_, refusal-of layout bytes _ (λ is. cc) (λ kind is. cc) read), told)
-  told-right file_error.Memory stop told read =
+  reported-right file_error.Memory stop told read =
       inl (elsewhere (λ said. Unit {0}) stop (inl told))
-  told-right (file_error.Input kind) stop told read =
+  reported-right (file_error.Input kind) stop told read =
       inl (unread-elsewhere kind name stop told)
 
--- what is told of a file's error is right, where its first bytes were read before
+-- what is reported about a file's error is right, where its first bytes were read before
 pub file-right : (layout : Layout) (start name : List ℕ) (rest known : Option (List ℕ))
     (error : FileError) (stop : Stop) (read : Option FileError)
     → known ≡ option_append (Some start) rest → read ≡ Some error
-    → IfSome known (λ bytes. IsReadIn layout bytes read) → IsToldOf name error stop
+    → IfSome known (λ bytes. IsReadIn layout bytes read) → IsReportedOf name error stop
     → IfSome rest (λ rest. IsRightIn layout (start ++ rest) name stop)
 file-right layout start name None known error stop read joined is refused told = tt
 file-right layout start name (Some rest) known error stop read joined is refused told =
-    told-right layout (start ++ rest) name error stop told
+    reported-right layout (start ++ rest) name error stop told
     (subst (λ r. IsReadIn layout (start ++ rest) r) is
     (subst (λ k. IfSome k (λ bytes. IsReadIn layout bytes read)) joined refused))
 
--- what is told of a file is right where it was read in the layout that it tells
+-- what is reported about a file is right where it was read in the layout that it tells
 pub layout-right : (old new : Option (List ℕ)) (buffer : List ℕ) (n : ℕ) (name : List ℕ)
     (stop : Stop) (layout : Layout) → HasRead old new buffer n → layout ≡ head_layout n buffer
     → IfSome new (λ rest. IsRightIn layout (take n buffer ++ rest) name stop)
@@ -111,7 +111,7 @@ layout-right (Some all) (Some rest) buffer n name stop layout read is right =
       says,
     )
 
--- what is told of text is right
+-- what is reported about text is right
 pub text-right : (old new : Option (List ℕ)) (buffer : List ℕ) (n : ℕ) (name : List ℕ)
     (stop : Stop) → HasRead old new buffer n
     → starts_with nat_eq (take n buffer) mark_bytes ≡ false → IsUnread name stop

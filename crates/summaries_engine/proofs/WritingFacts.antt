@@ -9,8 +9,8 @@ use Rattle.lines.specs.Lines.{lines_by}
 use Rattle.lines.specs.Reading.{AreShort}
 use Rattle.lines.specs.Writing.{Begins}
 use Rattle.summaries_engine.specs.declared.kinds.AnyFilter.TheVariants.{Classic}
-use Rattle.summaries_engine.specs.Answers.{told_text}
-use Rattle.summaries_engine.specs.declared.answers.Told.TheVariants.{Found}
+use Rattle.summaries_engine.specs.Answers.{wanted_text}
+use Rattle.summaries_engine.specs.declared.answers.Wanted.TheVariants.{Found}
 use Rattle.summaries_engine.specs.declared.stop.Stop.{Stop}
 use Rattle.summaries_engine.specs.Stops.{IsUnwritten, StopsAnswers, StopsWriting}
 use Rattle.summaries_engine.proofs.AnswerFacts.{found-a}
@@ -19,7 +19,7 @@ use Rattle.summaries_engine.proofs.SummaryFacts.{IsFilter}
 
 -- the text of the one key that is in
 text : (f : DefaultFilter) → IsFilter f 268500992 0
-    → told_text (Classic f) Found 10 ((97 ∷ []) ∷ []) ≡ 97 ∷ 10 ∷ []
+    → wanted_text (Classic f) Found 10 ((97 ∷ []) ∷ []) ≡ 97 ∷ 10 ∷ []
 text f is = rw (found-a f is) refl
 
 -- a write that fails at once stops the answers before the first key
@@ -57,13 +57,13 @@ key-alone f stop is over = record {
 
 -- the answers to the first keys of one line "a" begin with no other byte
 other-byte : (f : DefaultFilter) → IsFilter f 268500992 0 → (keys later : List (List ℕ))
-    → (97 ∷ []) ∷ [] ≡ keys ++ later → Begins (told_text (Classic f) Found 10 keys) (98 ∷ []) → ⊥
+    → (97 ∷ []) ∷ [] ≡ keys ++ later → Begins (wanted_text (Classic f) Found 10 keys) (98 ∷ []) → ⊥
 other-byte f is [] later cut begins = cc (begins.cut)
 other-byte f is (key ∷ []) later cut begins =
     let key_is : ◌≡◌ {A = List ℕ} (97 ∷ []) key = cc (cut) in
     let wrong : 97 ≡ 98 =
     ap (λ l. get_or l 0 0)
-    (sym (text f is) ∙ ap (λ k. told_text (Classic f) Found 10 (k ∷ [])) key_is ∙ begins.cut) in
+    (sym (text f is) ∙ ap (λ k. wanted_text (Classic f) Found 10 (k ∷ [])) key_is ∙ begins.cut) in
     omega (arith, wrong)
 other-byte f is (key ∷ more ∷ keys) later cut begins = cc (cut)
 
@@ -73,7 +73,7 @@ byte-wrong : (f : DefaultFilter) (stop : Stop) → IsFilter f 268500992 0
 unfolding lines_by
 byte-wrong f said is stop =
     other-byte f is stop.keys stop.first.later stop.first.cut
-    (subst (Begins (told_text (Classic f) Found 10 stop.keys)) (sym stop.part.appended)
+    (subst (Begins (wanted_text (Classic f) Found 10 stop.keys)) (sym stop.part.appended)
     stop.part.begins)
 
 -- none of the keys is too long
@@ -89,11 +89,11 @@ writing-none : (f : DefaultFilter) (stop : Stop)
     → StopsWriting (Classic f) Found 10 [] (Some []) (Some []) (Some (97 ∷ [])) stop → ⊥
 unfolding lines_by
 writing-none f said stop = none stop.keys stop.first.later stop.first.cut
-    (subst (Begins (told_text (Classic f) Found 10 stop.keys)) (sym stop.part.appended)
+    (subst (Begins (wanted_text (Classic f) Found 10 stop.keys)) (sym stop.part.appended)
     stop.part.begins)
   where
     none : (keys later : List (List ℕ)) → [] ≡ keys ++ later
-        → Begins (told_text (Classic f) Found 10 keys) (97 ∷ []) → ⊥
+        → Begins (wanted_text (Classic f) Found 10 keys) (97 ∷ []) → ⊥
     none [] later cut begins = cc (begins.cut)
     none (key ∷ keys) later cut begins = cc (cut)
 
@@ -104,7 +104,7 @@ unfolding lines_by
 asking-none f said (inl stop) = none stop.keys stop.first.later stop.first.cut stop.done
   where
     none : (keys later : List (List ℕ)) → [] ≡ keys ++ later
-        → 97 ∷ [] ≡ told_text (Classic f) Found 10 keys → ⊥
+        → 97 ∷ [] ≡ wanted_text (Classic f) Found 10 keys → ⊥
     none [] later cut text = cc (text)
     none (key ∷ keys) later cut text = cc (cut)
 asking-none f said (inr stop) = writing-none f said stop

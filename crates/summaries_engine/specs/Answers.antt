@@ -5,8 +5,8 @@ use Rattle.std.specs.Io.KnownBytes.{Appends}
 use Rattle.bloom_parts.specs.Keys.{HasKey, key_of}
 use Rattle.bloom_parts.specs.Sip.{sip}
 use Rattle.lines.specs.Reading.{AreShort, IsReadWholeBy}
-use Rattle.summaries_engine.specs.declared.answers.Told.{Told}
-use Rattle.summaries_engine.specs.declared.answers.Told.TheVariants.{Found, Absent}
+use Rattle.summaries_engine.specs.declared.answers.Wanted.{Wanted}
+use Rattle.summaries_engine.specs.declared.answers.Wanted.TheVariants.{Found, Absent}
 use Rattle.summaries_engine.specs.declared.kinds.AnyFilter.{AnyFilter}
 use Rattle.summaries_engine.specs.Kinds.{has_hash, parts_of}
 use Rattle.summaries_engine.specs.Summaries.{hash_in}
@@ -25,21 +25,22 @@ pub record HashesAll (key : ℕ × ℕ) (end : ℕ) (read left : Option (List �
   pub short : AreShort 65536 keys
   pub hashed : new ≡ old ++ map (sip key.0 key.1) keys
 
--- whether a key is told: those that may be in, or those that are surely absent
-abbrev pub is_told : Told → Bool → Bool
-is_told Found contained = contained
-is_told Absent contained = not contained
+-- whether a key is wanted: those that may be in, or those that are surely absent
+abbrev pub is_wanted : Wanted → Bool → Bool
+is_wanted Found contained = contained
+is_wanted Absent contained = not contained
 
--- the keys that are told of a filter, in order, each with its end
-abbrev pub told_text : AnyFilter → Told → ℕ → List (List ℕ) → List ℕ
-told_text f told end keys =
+-- the keys that are wanted of a filter, in order, each with its end
+abbrev pub wanted_text : AnyFilter → Wanted → ℕ → List (List ℕ) → List ℕ
+wanted_text f wanted end keys =
     flat_map (λ key. key ++ end ∷ [])
-    (filter (λ key. is_told told (has_hash f (hash_in f key))) keys)
+    (filter (λ key. is_wanted wanted (has_hash f (hash_in f key))) keys)
 
--- each key that a reader had was asked for, none is too long, and those that are told were written
-pub record AnswersAll (f : AnyFilter) (told : Told) (end : ℕ) (read left : Option (List ℕ))
+-- each key that a reader had was asked for, none is too long, and those that are wanted were
+-- written
+pub record AnswersAll (f : AnyFilter) (wanted : Wanted) (end : ℕ) (read left : Option (List ℕ))
     (from to : Option (List ℕ)) : Type 0 where
   pub keys : List (List ℕ)
   pub whole : IsReadWholeBy end read left keys
   pub short : AreShort 65536 keys
-  pub text : Appends from to (told_text f told end keys)
+  pub text : Appends from to (wanted_text f wanted end keys)

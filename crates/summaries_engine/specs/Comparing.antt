@@ -1,5 +1,5 @@
--- What is told of two filters of one shape and key, in lines of text. The text is this project's
--- own.
+-- What is reported about two filters of one shape and key, in lines of text. The text is this
+-- project's own.
 use Rattle.std.specs.Prelude.{◌≡◌, ◌⊎◌, ◌&&◌, ℕ, ◌-◌, ◌*◌, ◌/◌, ◌%◌, ◌^◌, codes, decimal, List, [], ◌∷◌, ◌++◌}
 use Rattle.std.specs.Fmt.{format_spec, styled_decimal}
 use Rattle.std.specs.Int.{div_ceil}

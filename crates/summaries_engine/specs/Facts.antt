@@ -1,4 +1,4 @@
--- What is told of a filter, in lines of text. The text is this project's own.
+-- What is reported about a filter, in lines of text. The text is this project's own.
 use Rattle.std.specs.Prelude.{◌≡◌, ℕ, ◌+◌, ◌-◌, ◌*◌, ◌/◌, ◌%◌, ◌^◌, false, codes, decimal, List, [], ◌++◌, Option, None, Some}
 use Rattle.std.specs.Fmt.{digits, format_spec, padded_integral, styled_decimal}
 use Rattle.std.specs.Int.{w64, div_ceil, swap_bytes}
@@ -54,7 +54,7 @@ billionths_text part =
     ++ styled_decimal (format_spec 32 0 4 9 (2 ^ 64 - 1)) (part % 10 ^ 9))
 
 -- the line of a rate of false positives, by two bounds in units of 2^-63: the lower one is rounded
--- down to billionths, and the upper one up, so that the rate lies between what is told
+-- down to billionths, and the upper one up, so that the rate lies between what is reported
 abbrev pub rate_text : ℕ → ℕ → List ℕ
 rate_text low high =
     codes "false positive rate: " ++ (billionths_text (low * 10 ^ 9 / 2 ^ 63)

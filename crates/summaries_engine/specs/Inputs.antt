@@ -5,14 +5,14 @@ use Rattle.std.specs.Io.KnownBytes.{Appends}
 use Rattle.bloom_parts.specs.Sip.{sip}
 use Rattle.fastbloom.specs.declared.parallel.shape.Shape.{Shape}
 use Rattle.lines.specs.Reading.{AreShort, IsReadWholeBy}
-use Rattle.summaries_engine.specs.declared.answers.Told.{Told}
+use Rattle.summaries_engine.specs.declared.answers.Wanted.{Wanted}
 use Rattle.summaries_engine.specs.declared.kinds.AnyFilter.{AnyFilter}
 use Rattle.summaries_engine.specs.declared.stop.Stop.{Stop}
-use Rattle.summaries_engine.specs.Answers.{told_text}
+use Rattle.summaries_engine.specs.Answers.{wanted_text}
 use Rattle.summaries_engine.specs.Stops.{IsMemory, IsWorker, StopsAnswers, StopsHashing}
 use Rattle.summaries_engine.specs.Summaries.{IsSummaryOf, joined}
 
--- what lies under which names: Some of the bytes, or None where that isn't told
+-- what lies under which names: Some of the bytes, or None where that isn't reported
 abbrev pub Lies : Type 1
 Lies = List ℕ → Option (List ℕ) → Type 0
 
@@ -39,12 +39,12 @@ pub record HashesInputs (lies : Lies) (key : ℕ × ℕ) (end : ℕ) (names : Li
   pub keys : HaveKeys lies end names parts
   pub hashed : hashes ≡ map (sip key.0 key.1) (joined parts)
 
--- all keys of all inputs were asked for, and those that are told were written
-pub record AnswersInputs (lies : Lies) (f : AnyFilter) (told : Told) (end : ℕ)
+-- all keys of all inputs were asked for, and those that are wanted were written
+pub record AnswersInputs (lies : Lies) (f : AnyFilter) (wanted : Wanted) (end : ℕ)
     (names : List (List ℕ)) (from to : Option (List ℕ)) : Type 0 where
   pub parts : List (List (List ℕ))
   pub keys : HaveKeys lies end names parts
-  pub text : Appends from to (told_text f told end (joined parts))
+  pub text : Appends from to (wanted_text f wanted end (joined parts))
 
 -- exactly the bits of all keys of all inputs are set in a filter of this shape
 pub record SummarizesInputs (lies : Lies) (end : ℕ) (names : List (List ℕ)) (shape : Shape)
@@ -81,16 +81,16 @@ StopsBuilding lies fails end names stop =
 
 -- an input can't be had, and the replies for the keys before it are written; or the run stopped
 -- within it
-abbrev pub StopsAnswered : Lies → (List ℕ → Stop → Type 0) → AnyFilter → Told → ℕ
+abbrev pub StopsAnswered : Lies → (List ℕ → Stop → Type 0) → AnyFilter → Wanted → ℕ
     → Option (List ℕ) → Option (List ℕ) → List (List ℕ) → List ℕ → Stop → Type 0
-StopsAnswered lies fails f told end from to keys name stop =
-    (fails name stop × Appends from to (told_text f told end keys))
+StopsAnswered lies fails f wanted end from to keys name stop =
+    (fails name stop × Appends from to (wanted_text f wanted end keys))
     ⊎ ((read : Option (List ℕ)) × lies name read
-    × StopsAnswers f told end name keys read from to stop)
+    × StopsAnswers f wanted end name keys read from to stop)
 
 -- the run stopped before the replies for all keys of all inputs were written
-abbrev pub StopsAsking : Lies → (List ℕ → Stop → Type 0) → AnyFilter → Told → ℕ
+abbrev pub StopsAsking : Lies → (List ℕ → Stop → Type 0) → AnyFilter → Wanted → ℕ
     → List (List ℕ) → Option (List ℕ) → Option (List ℕ) → Stop → Type 0
-StopsAsking lies fails f told end names from to stop =
+StopsAsking lies fails f wanted end names from to stop =
     StopsAt lies end names
-    (λ keys name. StopsAnswered lies fails f told end from to keys name stop)
+    (λ keys name. StopsAnswered lies fails f wanted end from to keys name stop)

@@ -54,29 +54,29 @@ IsUnread name stop = IsMemory stop
     ⊎ IsInput (HasMessage (Some (name ++ codes ": it can't be read"))) stop
     ⊎ SaysNone name stop
 
--- what is told where a file isn't read for this error
-abbrev pub IsToldOf : List ℕ → FileError → Stop → Type 0
-IsToldOf name file_error.Memory stop = IsMemory stop
-IsToldOf name (file_error.Input kind) stop = IsUnreadAs kind name stop
-IsToldOf name _ stop = SaysNone name stop
+-- what is reported where a file isn't read for this error
+abbrev pub IsReportedOf : List ℕ → FileError → Stop → Type 0
+IsReportedOf name file_error.Memory stop = IsMemory stop
+IsReportedOf name (file_error.Input kind) stop = IsUnreadAs kind name stop
+IsReportedOf name _ stop = SaysNone name stop
 
--- what is told where no text is read for an error of this kind: bytes that aren't UTF-8 are no
+-- what is reported where no text is read for an error of this kind: bytes that aren't UTF-8 are no
 -- filter
-pub record IsToldOfText (kind : ErrorKind) (name : List ℕ) (stop : Stop) : Type 0 where
+pub record IsReportedOfText (kind : ErrorKind) (name : List ℕ) (stop : Stop) : Type 0 where
   pub none : kind ≡ InvalidData → SaysNone name stop
   pub other : (kind ≡ InvalidData → ⊥) → IsUnreadAs kind name stop
 
 -- the layout that a whole head tells. A file that ends within its head is refused, whatever it
 -- tells
-abbrev pub layout_told : List ℕ → Layout
-layout_told bytes =
+abbrev pub layout_given : List ℕ → Layout
+layout_given bytes =
     if nat_le 64 (length bytes) && nat_eq (number_at bytes 6) 1 then Lines else Whole
 
 -- bytes hold no filter: a file of the form is refused where the layout is read that it tells. Of
 -- text nothing is said
 abbrev pub HoldsNone : List ℕ → Type 0
 HoldsNone bytes = Begins bytes mark_bytes
-    → (error : FileError) × (refusal_in (layout_told bytes) bytes ≡ Some error)
+    → (error : FileError) × (refusal_in (layout_given bytes) bytes ≡ Some error)
 
 -- the layout that the first bytes of a file tell, of which this many were read into 64
 abbrev pub head_layout : ℕ → List ℕ → Layout

@@ -1,4 +1,4 @@
--- What is told of a filter to scripts: one line of JSON (RFC 8259). The names in it are this
+-- What is reported about a filter to scripts: one line of JSON (RFC 8259). The names in it are this
 -- project's own.
 use Rattle.std.specs.Prelude.{◌≡◌, ℕ, ◌*◌, ◌/◌, ◌^◌, codes, decimal, List, ◌++◌, Option, None, Some}
 use Rattle.std.specs.Int.{div_ceil}

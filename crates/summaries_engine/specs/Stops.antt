@@ -11,11 +11,11 @@ use Rattle.bloom_parts.specs.declared.error.FilterError.{FilterError}
 use Rattle.bloom_parts.specs.declared.error.FilterError.TheVariants as filter_error
 use Rattle.lines.specs.Reading.{AreShort, IsReadFromBy, IsReadToLongBy}
 use Rattle.lines.specs.Writing.{AppendsPart}
-use Rattle.summaries_engine.specs.declared.answers.Told.{Told}
+use Rattle.summaries_engine.specs.declared.answers.Wanted.{Wanted}
 use Rattle.summaries_engine.specs.declared.kinds.AnyFilter.{AnyFilter}
 use Rattle.summaries_engine.specs.declared.stop.Stop.{Stop}
 use Rattle.summaries_engine.specs.declared.stop.Stop.TheVariants.{Memory, Worker, Input, Bad, Output}
-use Rattle.summaries_engine.specs.Answers.{told_text}
+use Rattle.summaries_engine.specs.Answers.{wanted_text}
 use Rattle.summaries_engine.specs.Refusals.{too_long_text}
 
 -- the error says this and has no cause
@@ -79,13 +79,14 @@ abbrev pub IsUnreadable : List ℕ → Stop → Type 0
 IsUnreadable name stop =
     IsMemory stop ⊎ IsInput (SaysOver (name ++ codes ": it can't be read")) stop
 
--- what is told of a read that failed by an error of this kind: exactly that of memory is memory
+-- what is reported about a read that failed by an error of this kind: exactly that of memory is
+-- memory
 pub record IsUnreadAs (kind : ErrorKind) (name : List ℕ) (stop : Stop) : Type 0 where
   pub memory : kind ≡ OutOfMemory → IsMemory stop
   pub other : (kind ≡ OutOfMemory → ⊥)
       → IsInput (SaysOver (name ++ codes ": it can't be read")) stop
 
--- what is told where workers fill no filter: a thread that couldn't be started, or else memory
+-- what is reported where workers fill no filter: a thread that couldn't be started, or else memory
 pub record IsUnfilled (error : FilterError) (stop : Stop) : Type 0 where
   pub worker : error ≡ filter_error.Worker → IsWorker stop
   pub memory : error ≡ filter_error.Memory → IsMemory stop
@@ -113,19 +114,19 @@ StopsHashing end name read stop = StopsAfter end name read (λ keys. Unit {0}) s
 
 -- a write failed within the replies for earlier keys and these first keys, none of which is too
 -- long: what was written is a beginning of their text
-pub record StopsWriting (f : AnyFilter) (told : Told) (end : ℕ) (earlier : List (List ℕ))
+pub record StopsWriting (f : AnyFilter) (wanted : Wanted) (end : ℕ) (earlier : List (List ℕ))
     (read from to : Option (List ℕ)) (stop : Stop) : Type 0 where
   pub keys : List (List ℕ)
   pub first : IsReadFromBy end read keys
   pub short : AreShort 65536 keys
-  pub part : AppendsPart (told_text f told end (earlier ++ keys)) from to
+  pub part : AppendsPart (wanted_text f wanted end (earlier ++ keys)) from to
   pub says : IsUnwritten stop
 
 -- the run stopped after the replies for earlier keys and these first keys were written, or within a
 -- reply, where a write failed
-abbrev pub StopsAnswers : AnyFilter → Told → ℕ → List ℕ → List (List ℕ) → Option (List ℕ)
+abbrev pub StopsAnswers : AnyFilter → Wanted → ℕ → List ℕ → List (List ℕ) → Option (List ℕ)
     → Option (List ℕ) → Option (List ℕ) → Stop → Type 0
-StopsAnswers f told end name earlier read from to stop =
+StopsAnswers f wanted end name earlier read from to stop =
     StopsAfter end name read
-    (λ keys. Appends from to (told_text f told end (earlier ++ keys))) stop
-    ⊎ StopsWriting f told end earlier read from to stop
+    (λ keys. Appends from to (wanted_text f wanted end (earlier ++ keys))) stop
+    ⊎ StopsWriting f wanted end earlier read from to stop

@@ -1,4 +1,4 @@
-//! What is told of two filters.
+//! What is reported about two filters.
 ghost use Rattle.std.specs.Prelude.{◌≡◌, IfErr, IfOk, string_bytes};
 ghost use Rattle.fastbloom.specs.Filter.{SameShape};
 ghost use Rattle.fastbloom.specs.Ones.{ones_of, ones_of_either};

@@ -1,4 +1,4 @@
-//! What is told of a filter.
+//! What is reported about a filter.
 ghost use Rattle.std.specs.Prelude.{◌≡◌, ◌≤◌, ◌<◌, ◌*◌, ◌/◌, ◌^◌, IfOk, string_bytes};
 ghost use Rattle.std.specs.Int.{div_ceil};
 ghost use Rattle.summaries_engine.specs.Facts.{TellsFilter, billionths_text, blocked_text, facts_text, form_text, items_text, key_text, lines_text, rate_of_text, set_text, share_of};

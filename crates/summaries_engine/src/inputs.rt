@@ -12,7 +12,7 @@ pub trait Inputs {
     /// What gives the bytes of a name.
     type Input: Read + Drop;
 
-    /// What lies under which names: Some of the bytes, or None where that isn't told.
+    /// What lies under which names: Some of the bytes, or None where that isn't reported.
     ghost has: { Self → List ℕ → Option (List ℕ) → Type 0 };
 
     /// Why the input of a name isn't had.

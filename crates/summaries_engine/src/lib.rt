@@ -8,7 +8,8 @@
 //! - `answers`: which keys may be in.
 //! - `loading`, `head`, `form`: the filter of a reader, what the head of its file tells, and how a
 //!   filter is written.
-//! - `sizes`, `facts`, `comparing`: the shape for some keys, and what is told of one filter or two.
+//! - `sizes`, `facts`, `comparing`: the shape for some keys, and what is reported about one filter
+//!   or two.
 //! - `inputs`, `stop`: inputs that have names, and why a run stopped.
 //! - `laws`: unions of parts in any order, number and nesting.
 #![tactic(auto)]
@@ -33,7 +34,7 @@ mod stop;
 mod summary;
 mod unions;
 
-pub use answers::{Told, ask};
+pub use answers::{Wanted, ask};
 pub use blocked::{blocked_for, blocked_with_bits, build_blocked};
 pub use comparing::{compare_named, compared, compared_blocked};
 pub use crew::{Begun, Crew, cut};

@@ -7,7 +7,7 @@ ghost use Rattle.fastbloom.specs.FilterFiles.{IsFileOf};
 ghost use Rattle.summaries_engine.specs.declared.kinds.AnyFilter.TheVariants.{Classic, Blocked};
 ghost use Rattle.summaries_engine.specs.Answers.{IsKeyed};
 ghost use Rattle.summaries_engine.specs.Kinds.{IsFileOfKind, parts_of};
-ghost use Rattle.summaries_engine.specs.Loaded.{IsInForm, IsRightIn, IsRightOf, IsRightWith, IsToldOf, IsToldOfText, IsUnloaded, IsUnread, SaysNone, hashes_text};
+ghost use Rattle.summaries_engine.specs.Loaded.{IsInForm, IsRightIn, IsRightOf, IsRightWith, IsReportedOf, IsReportedOfText, IsUnloaded, IsUnread, SaysNone, hashes_text};
 ghost use Rattle.summaries_engine.specs.Stops.{IsBad};
 
 use crate::form::Form;
@@ -23,16 +23,16 @@ use std::alloc::Global;
 use std::io;
 use std::io::{ErrorKind, Read};
 
-// What is told where what was read is no filter.
+// What is reported where what was read is no filter.
 fn no_filter(name: &str, error: anyhow::Error) -> Stop
     ensures { SaysNone name.now result }
 {
     Stop::Bad(error.context(format_args!("{name}: it holds no filter")))
 }
 
-// What is told where a file of the form isn't loaded.
+// What is reported where a file of the form isn't loaded.
 fn unloaded(name: &str, error: FileError) -> Stop
-    ensures told { IsToldOf name.now error result }
+    ensures told { IsReportedOf name.now error result }
     ensures failed { IsUnread name.now result }
 {
     match error {
@@ -42,9 +42,9 @@ fn unloaded(name: &str, error: FileError) -> Stop
     }
 }
 
-// What is told where no text is read: what isn't UTF-8 is none.
-fn untold(name: &str, error: io::Error) -> Stop
-    ensures told { IsToldOfText (error_kind error) name.now result }
+// What is reported where no text is read: what isn't UTF-8 is none.
+fn unread_text(name: &str, error: io::Error) -> Stop
+    ensures told { IsReportedOfText (error_kind error) name.now result }
     ensures failed { IsUnread name.now result }
 {
     if error.kind() == ErrorKind::InvalidData {
@@ -152,7 +152,7 @@ fn load_text<R: Read>(
 {
     match io::read_to_string(alloc, start.chain(input)) {
         Ok(text) => filter_of(alloc, name, text.as_str()),
-        Err(error) => Err(untold(name, error)),
+        Err(error) => Err(unread_text(name, error)),
     }
 }
 
@@ -179,7 +179,7 @@ fn load_any<R: Read>(alloc: Global, name: &str, input: &mut R) -> Result<(AnyFil
     }
 }
 
-// What is told of a filter with more hashes than are allowed.
+// What is reported about a filter with more hashes than are allowed.
 fn too_many_hashes(name: &str, hashes: u32, most: u32) -> Stop
     ensures { IsBad (HasMessage (Some (hashes_text name.now hashes most))) result }
 {
@@ -206,7 +206,7 @@ pub fn load<R: Read>(
     ensures few { IfOk result (λ read. (parts_of read.0).hashes ≤ most) }
     ensures form { IfOk result (λ read. IfSome (R.remaining input.old) (IsInForm read.1 read.0)) }
     ensures failed { IfErr result (IsUnloaded name.now most) }
-    // It is told only of bytes that are refused, or whose filter has that many hashes.
+    // It is reported only of bytes that are refused, or whose filter has that many hashes.
     ensures right { IfErr result (λ stop.
         IfSome (R.remaining input.old) (λ bytes. IsRightWith bytes name.now most stop)) }
 {

@@ -1,4 +1,4 @@
-//! What is told of a filter to scripts: one line of JSON.
+//! What is reported about a filter to scripts: one line of JSON.
 ghost use Rattle.std.specs.Prelude.{◌≡◌, ◌++◌, IfOk, string_bytes};
 ghost use Rattle.summaries_engine.specs.Facts.{bytes_text};
 ghost use Rattle.summaries_engine.specs.Scripts.{TellsScript, blocked_script, classic_script, items_script, parts_script, rate_script};

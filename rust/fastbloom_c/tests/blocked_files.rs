@@ -230,7 +230,7 @@ fn threads_fill_one_mapped_file_and_no_insert_is_lost() {
 }
 
 #[test]
-fn what_cannot_be_read_or_written_is_told() {
+fn what_cannot_be_read_or_written_is_reported() {
     let place = Place::new("told");
     let none = BlockedBloomFilter::load(&place.0).expect_err("no file");
     assert!(matches!(none, Error::Input(error) if error.kind() == ErrorKind::NotFound));

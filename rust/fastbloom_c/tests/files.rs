@@ -241,7 +241,7 @@ impl Read for Broken<'_> {
 }
 
 #[test]
-fn a_read_that_fails_is_told_wherever_it_is() {
+fn a_read_that_fails_is_reported_wherever_it_is() {
     let file = worked();
     for there in [0, 5, 63, 64, 71, 72] {
         let answer = BloomFilter::read_file(&mut Broken(&file[..there]));
@@ -287,7 +287,7 @@ fn the_cause_of_a_read_that_failed_is_kept() {
 }
 
 #[test]
-fn a_write_that_fails_is_told() {
+fn a_write_that_fails_is_reported() {
     let made = read(&worked()).expect("a filter");
     for room in [0, 63, 64, 71] {
         let mut file = [0; 71];

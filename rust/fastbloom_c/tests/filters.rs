@@ -120,7 +120,7 @@ fn the_words_of_a_thousand_items() {
 }
 
 #[test]
-fn an_insert_turns_on_the_positions_of_its_hash() {
+fn an_insert_sets_the_positions_of_its_hash() {
     for (words, hashes, hash, wanted) in [
         (1, 2, u64::MAX, vec![0x8000_0800_0000_0000]),
         (1, 2, 1, vec![1 << 20 | 1]),

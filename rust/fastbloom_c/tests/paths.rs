@@ -156,7 +156,7 @@ fn what_cannot_be_saved_leaves_nothing() {
 }
 
 #[test]
-fn what_cannot_be_loaded_is_told() {
+fn what_cannot_be_loaded_is_reported() {
     let folder = Folder::new("loaded");
     let none = BloomFilter::load(folder.0.join("none")).unwrap_err();
     assert_eq!(none, Error::from(io::Error::from(io::ErrorKind::NotFound)));

@@ -5,8 +5,8 @@ ghost use Rattle.bloom_parts.specs.Keys.{HasKey};
 ghost use Rattle.bloom_blocked.specs.BlockedData.{IsLineDataOf, line_data_refusal};
 
 use super::BlockedBloomFilter;
+use crate::by_hash::LINE;
 use crate::error::LinesError;
-use crate::words::LINE;
 use bloom_parts::bit_vector::MAX_WORDS;
 use bloom_parts::error::FilterError;
 use bloom_parts::hasher::DefaultHasher;

@@ -124,6 +124,7 @@ impl<S: BuildHasher> TakesHashes for BlockedBloomFilter<S> {
     }
 
     #[inline(always)]
+    #[tactic(auto, using(crate::proofs::LawLemmas::inserts_all_one))]
     fn insert_one(&mut self, hash: u64) {
         self.insert_hash(hash);
     }

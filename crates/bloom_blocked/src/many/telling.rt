@@ -4,7 +4,7 @@ ghost use Rattle.bloom_parts.specs.Content.{content};
 ghost use Rattle.bloom_blocked.specs.Many.{positions_of_all, TellsNew};
 
 use super::{WORDS_TO_READ_AHEAD, all_are_set, ends_are_full, mask_where};
-use crate::words::insert_hash;
+use crate::by_hash::insert_hash;
 use bloom_parts::slices::clear;
 
 // Sets all positions of each of these hashes, one after the other. Bit i is whether not all

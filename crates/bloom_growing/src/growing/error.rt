@@ -4,8 +4,8 @@ use std::alloc::AllocError;
 use thiserror::Error;
 
 /// Why a filter that grows can't have its first or its next filter, or one that rotates its two. Of
-/// several reasons the first is told, in the order of the variants. After a refusal every filter is
-/// as it was before the call.
+/// several reasons the first is reported, in the order of the variants. After a refusal every
+/// filter is as it was before the call.
 #[derive(Clone, Copy, Debug, PartialEq, Eq, Drop, Error)]
 pub enum GrowingError {
     /// The rate can't be halved, since its lower part would be 2^64 or more.

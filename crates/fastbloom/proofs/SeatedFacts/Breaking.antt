@@ -15,7 +15,7 @@ use Rattle.fastbloom.proofs.SeatedLemmas.Rules.Seats.{only-view}
 seated-off : IsSeated 1 1 (at 1 (view Pass (20 ∷ []) ∷ [])) → ⊥
 unfolding content set_of
 seated-off rule =
-    both_ways (content (1 ∷ []) 20) refl (rule.known_on 0 (view Pass (20 ∷ [])) refl 20 refl)
+    both_ways (content (1 ∷ []) 20) refl (rule.known_is_set 0 (view Pass (20 ∷ [])) refl 20 refl)
 
 -- what is set was there at the start or was gained: bit 1 of 1048579 was neither
 seated-unaccounted : IsSeated 1 1 (at 1048579 (view Pass (20 ∷ []) ∷ [])) → ⊥
@@ -88,7 +88,7 @@ unfolding content
 seated-start_off rule =
     let same = rule.same_start 0 (seat_view Pass (1 ∷ []) [] [] 1) refl (λ bad. cc) in
     both_ways (content (0 ∷ []) 0) refl
-    (rule.start_on 0 (ap (λ l. content l 0) (sym same) ∙ refl))
+    (rule.start_is_set 0 (ap (λ l. content l 0) (sym same) ∙ refl))
 
 -- what is gained is known
 seated-unknown : IsSeated 1 1 (at 1048577 (seat_view Pass (1 ∷ []) [] (20 ∷ []) 1 ∷ [])) → ⊥

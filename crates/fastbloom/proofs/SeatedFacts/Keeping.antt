@@ -51,8 +51,8 @@ seated-alone = record {
   start = 1 ∷ [];
   same_start = λ seat v there live.
       by-one (view Pass (20 ∷ [])) (λ w. w.start ≡ 1 ∷ []) refl 1048577 seat v there;
-  start_on = λ p begun. ap (content (1048577 ∷ [])) (single-from 0 p (lit< tt) begun);
-  known_on = by-one (view Pass (20 ∷ []))
+  start_is_set = λ p begun. ap (content (1048577 ∷ [])) (single-from 0 p (lit< tt) begun);
+  known_is_set = by-one (view Pass (20 ∷ []))
       (λ w. (p : ℕ) → set_of w.known p ≡ true → content (1048577 ∷ []) p ≡ true)
       (λ p is. ap (content (1048577 ∷ [])) (one-from 20 p is)) 1048577;
   gained_known = by-one (view Pass (20 ∷ []))

@@ -2,7 +2,7 @@
 -- holds and at cases as near as can be that don't.
 use Rattle.std.proofs.Common.{◌≡◌, ℕ, ◌+◌, ◌^◌, true, false, [], ◌∷◌, length, refl, ap, ◌∙◌, sym, arith, lit<, lit≤}
 use Rattle.atomic_table.specs.Seated.{TableId}
-use Rattle.fastbloom.specs.Sets.{set_of, picked, on_in, fresh_in}
+use Rattle.fastbloom.specs.Sets.{set_of, picked, ones_in, fresh_in}
 use Rattle.fastbloom.specs.Passes.{sight_of, seated_num_bits}
 use Rattle.fastbloom.specs.Plays.{FilterSeat}
 use Rattle.fastbloom.specs.Seats.{IsStanding, IsPassSeat}
@@ -24,9 +24,9 @@ unfolding set_of
 set_of-other = refl
 
 -- the positions of word 1 that are set in a word with the bits 0 and 63
-on_in-ends : on_in 1 (2 ^ 63 + 1) ≡ 127 ∷ 64 ∷ []
+ones_in-ends : ones_in 1 (2 ^ 63 + 1) ≡ 127 ∷ 64 ∷ []
 unfolding picked
-on_in-ends = refl
+ones_in-ends = refl
 
 -- of the bits 0 and 20 of a mask, only 20 is fresh where bit 0 was set
 fresh_in-one : fresh_in 1 1048577 1 ≡ 84 ∷ []

@@ -10,7 +10,7 @@ use Rattle.bloom_parts.specs.Places.{IsPart}
 use Rattle.bloom_parts.proofs.PublishedLemmas.{content-past}
 use Rattle.fastbloom.specs.Sets.{set_of}
 use Rattle.fastbloom.specs.Rule.{IsSeated}
-use Rattle.fastbloom.specs.Plays.{FilterSeat, note_of, told}
+use Rattle.fastbloom.specs.Plays.{FilterSeat, note_of, informed}
 use Rattle.fastbloom.specs.Loads.{Views}
 use Rattle.fastbloom.specs.Passes.{Sight, sight_of, known_of, either_of, Meets, Closes}
 use Rattle.fastbloom.specs.Seats.{IsPassSeat}
@@ -27,26 +27,28 @@ start-known old new words views whole p begun = elim (cases_lt (p / 64) words) [
       absurd (both_ways (content old.start p) (content-past old.start p (omega arith)) begun)
 ]
 
--- what is told of equal views
-pub told-same : (a b c d : Sets) → a ≡ b → c ≡ d → told a (note_of c) ≡ told b (note_of d)
-told-same a b c d first second =
-    ap (λ (v : Sets). told v (note_of c)) first ∙ ap (λ (v : Sets). told b (note_of v)) second
+-- equal views that hear of equal views are equal
+pub informed-same : (a b c d : Sets) → a ≡ b → c ≡ d
+    → informed a (note_of c) ≡ informed b (note_of d)
+informed-same a b c d first second =
+    ap (λ (v : Sets). informed v (note_of c)) first
+    ∙ ap (λ (v : Sets). informed b (note_of v)) second
 
 -- the seats of two passes: before they met, as they knew of one another, and after
-module _ (a b a_told b_told a_new b_new : FilterSeat) (words : ℕ)
-    (a_table : a_told.table_id ≡ a.table_id) (b_table : b_told.table_id ≡ b.table_id)
-    (b_is : b_told.me.0 ≡ told b.me.0 (note_of a.me.0))
-    (a_is : a_told.me.0 ≡ told a.me.0 (note_of b_told.me.0))
-    (a_views : Views words (sight_of a_told) (sight_of a_new))
-    (b_views : Views words (sight_of b_told) (sight_of b_new))
+module _ (a b a_heard b_heard a_new b_new : FilterSeat) (words : ℕ)
+    (a_table : a_heard.table_id ≡ a.table_id) (b_table : b_heard.table_id ≡ b.table_id)
+    (b_is : b_heard.me.0 ≡ informed b.me.0 (note_of a.me.0))
+    (a_is : a_heard.me.0 ≡ informed a.me.0 (note_of b_heard.me.0))
+    (a_views : Views words (sight_of a_heard) (sight_of a_new))
+    (b_views : Views words (sight_of b_heard) (sight_of b_new))
     (a_whole : length a.me.0.start ≡ words) (b_whole : length b.me.0.start ≡ words) where
-  a_start : a_told.me.0.start ≡ a.me.0.start
+  a_start : a_heard.me.0.start ≡ a.me.0.start
   a_start = ap (λ (v : Sets). v.start) a_is
 
-  b_start : b_told.me.0.start ≡ b.me.0.start
+  b_start : b_heard.me.0.start ≡ b.me.0.start
   b_start = ap (λ (v : Sets). v.start) b_is
 
-  in-b : IsPart (either_of (sight_of a) (sight_of b)) (set_of b_told.me.0.known)
+  in-b : IsPart (either_of (sight_of a) (sight_of b)) (set_of b_heard.me.0.known)
   in-b p is =
       subst (λ (v : Sets). set_of v.known p ≡ true) (sym b_is)
       (elim (or_cases (set_of a.me.0.known p) (set_of b.me.0.known p) is) [
@@ -54,10 +56,10 @@ module _ (a b a_told b_told a_new b_new : FilterSeat) (words : ℕ)
         | inr second ↦ in-left b.me.0.known a.me.0.known p second
       ])
 
-  in-a : IsPart (either_of (sight_of a) (sight_of b)) (set_of a_told.me.0.known)
+  in-a : IsPart (either_of (sight_of a) (sight_of b)) (set_of a_heard.me.0.known)
   in-a p is =
       subst (λ (v : Sets). set_of v.known p ≡ true) (sym a_is)
-      (in-right a.me.0.known b_told.me.0.known p (in-b p is))
+      (in-right a.me.0.known b_heard.me.0.known p (in-b p is))
 
   pub meets : Meets (sight_of a) (sight_of b) (sight_of a_new) (sight_of b_new)
   meets = record {
@@ -74,10 +76,10 @@ module _ (a b a_told b_told a_new b_new : FilterSeat) (words : ℕ)
     known_a = λ p is. a_views.kept p (in-a p is);
     known_b = λ p is. b_views.kept p (in-b p is);
     start_a = subst (λ l. IsPart (content l) (known_of (sight_of a_new))) a_start
-        (start-known (sight_of a_told) (sight_of a_new) words a_views
+        (start-known (sight_of a_heard) (sight_of a_new) words a_views
         (ap length a_start ∙ a_whole));
     start_b = subst (λ l. IsPart (content l) (known_of (sight_of b_new))) b_start
-        (start-known (sight_of b_told) (sight_of b_new) words b_views
+        (start-known (sight_of b_heard) (sight_of b_new) words b_views
         (ap length b_start ∙ b_whole));
   }
 
@@ -92,9 +94,9 @@ closes count passes seat_id seat words slots pass final =
     let same = rule.same_start seat_id seat.me.0 at (pass-not_spent seat.me.0 pass.role) in
     record {
       start = λ p begun. subst (λ l. content l p ≡ true) final.2
-          (rule.start_on p (subst (λ l. content l p ≡ true) same begun));
+          (rule.start_is_set p (subst (λ l. content l p ≡ true) same begun));
       known = λ p known. subst (λ l. content l p ≡ true) final.2
-          (rule.known_on seat_id seat.me.0 at p known);
+          (rule.known_is_set seat_id seat.me.0 at p known);
       gained = λ p gained. subst (λ l. content l p ≡ false) (sym same)
           (rule.gained_new seat_id seat.me.0 at p gained);
     }

@@ -34,8 +34,8 @@ module _ (s : Standing) (w : Sets) (one : s.views ≡ w ∷ []) (same : s.words 
     count = refl;
     start = w.start;
     same_start = λ j u there live. ap (λ (y : Sets). y.start) (sym (is-it j u there));
-    start_on = λ p begun. subst (λ l. content l p ≡ true) (sym same) begun;
-    known_on = λ j u there p is. absurd (knows-none j u there p is);
+    start_is_set = λ p begun. subst (λ l. content l p ≡ true) (sym same) begun;
+    known_is_set = λ j u there p is. absurd (knows-none j u there p is);
     gained_known = λ j u there p is. absurd (gains-none j u there p is);
     gained_new = λ j u there p is. absurd (gains-none j u there p is);
     gained_once = λ i j u z at_i at_j other p is. absurd (gains-none i u at_i p is);

@@ -1,4 +1,4 @@
 pub mod Inserting
 pub mod Looking
 pub mod Positions
-pub mod Turning
+pub mod Setting

@@ -2,7 +2,7 @@
 use Rattle.std.proofs.Common.{◌≡◌, ℕ, zero, suc, ◌+◌, ◌*◌, ◌/◌, ◌%◌, ◌<◌, ◌≤◌, ◌⊎◌, Bool, true, false, not, ◌||◌, ◌&&◌, eqb, if◌then◌else◌, List, [], ◌∷◌, ◌++◌, refl, sym, ap, ◌∙◌, subst, inl, inr, arith}
 use Rattle.std.proofs.lemmas.Bool.{both_ways, or_cases, or_left, or_right, and_parts, and_from, eqb-true, eq-eqb, not-true, cases_eq}
 use Rattle.bloom_parts.specs.Content.{bit_is_on}
-use Rattle.fastbloom.specs.Sets.{set_of, picked, on_in, fresh_in}
+use Rattle.fastbloom.specs.Sets.{set_of, picked, ones_in, fresh_in}
 
 -- nothing is in the set of the empty list
 pub in-none : (p : ℕ) → set_of [] p ≡ true → ⊥
@@ -122,11 +122,11 @@ whole-to i test p word is =
     (picked-to i test 64 (p % 64) (omega arith) (ap test same ∙ is))
 
 -- the positions that are set in a word
-pub on-from : (i word p : ℕ) → set_of (on_in i word) p ≡ true
+pub on-from : (i word p : ℕ) → set_of (ones_in i word) p ≡ true
     → (p / 64 ≡ i) × (bit_is_on word p ≡ true)
 on-from i word p is = whole-from i (bit_is_on word) p is
 
-pub on-to : (i word p : ℕ) → p / 64 ≡ i → bit_is_on word p ≡ true → set_of (on_in i word) p ≡ true
+pub on-to : (i word p : ℕ) → p / 64 ≡ i → bit_is_on word p ≡ true → set_of (ones_in i word) p ≡ true
 on-to i word p here is = whole-to i (bit_is_on word) p here is
 
 -- the positions that are set in a mask and clear in the word found

@@ -1,4 +1,4 @@
 pub mod Loading
 pub mod Passes
+pub mod Setting
 pub mod Splitting
-pub mod Turning

@@ -8,7 +8,7 @@ ghost use Rattle.fastbloom.specs.Seats.{IsStanding};
 ghost use Rattle.fastbloom.specs.declared.seated.rule.Role.TheVariants.{Pass};
 
 use super::rule::{SeatedRule, Sets, Size};
-use super::steps::{FilterSeat, SharedWords, load, turn_on};
+use super::steps::{FilterSeat, SharedWords, load, set_bits};
 use atomic_table::Table;
 use bloom_parts::bit_vector::{index, is_set, word_and_mask};
 use bloom_parts::hasher::DoubleHasher;
@@ -18,7 +18,7 @@ use std::alloc::Global;
 pub(crate) type FilterTable = Table<(), Sets, Size, SeatedRule, Global>;
 
 // Sets a position, and returns whether it was set before.
-fn turn_on_position(shared: &SharedWords, seat: &mut FilterSeat, position: usize) -> bool
+fn set_position(shared: &SharedWords, seat: &mut FilterSeat, position: usize) -> bool
     requires at { SitsAt seat.old shared.now.table_id shared.now.key }
     requires within { position < 64 * shared.now.table_id.words }
     requires pass { seat.old.me.0.role ≡ Pass }
@@ -27,7 +27,7 @@ fn turn_on_position(shared: &SharedWords, seat: &mut FilterSeat, position: usize
         (sight_of seat.old) (sight_of seat.new) result }
 {
     let (word, mask) = word_and_mask(position);
-    is_set(turn_on(shared, seat, word, mask), mask)
+    is_set(set_bits(shared, seat, word, mask), mask)
 }
 
 // Whether a position is set.
@@ -58,12 +58,12 @@ pub(crate) fn insert_positions(
 {
     let num_bits = table.word_count() * 64;
     let mut chain = DoubleHasher::new(hash);
-    let mut all_on = true;
+    let mut all_set = true;
     'places: for _ in 0..num_hashes {
         let position = index(num_bits, chain.next());
-        all_on &= turn_on_position(&table.shared, seat, position);
+        all_set &= set_position(&table.shared, seat, position);
     }
-    all_on
+    all_set
 }
 
 /// Looks at the positions of a hash up to the first that is clear, and returns whether all are set.

@@ -2,7 +2,7 @@
 ghost use Rattle.std.specs.Prelude.{◌≡◌, ◌<◌};
 ghost use Rattle.fastbloom.specs.Loads.{Views};
 ghost use Rattle.fastbloom.specs.Passes.{Meets, sight_of};
-ghost use Rattle.fastbloom.specs.Plays.{SitsAt, note_of, told, spent_view};
+ghost use Rattle.fastbloom.specs.Plays.{SitsAt, note_of, informed, spent_view};
 ghost use Rattle.fastbloom.specs.Seats.{IsPassSeat};
 ghost use Rattle.fastbloom.specs.declared.seated.rule.Role.TheVariants.{Pass};
 
@@ -24,7 +24,7 @@ impl Split<Sets> for Notes {
 struct Hears;
 
 impl Join<Sets> for Hears {
-    ghost both = { told };
+    ghost both = { informed };
 
     ghost spent = { spent_view };
 }
@@ -39,7 +39,7 @@ fn tell(shared: &SharedWords, from: &mut FilterSeat, to: &mut FilterSeat)
     ensures from_table { from.new.table_id ≡ from.old.table_id }
     ensures from_same { from.new.me.0 ≡ from.old.me.0 }
     ensures to_table { to.new.table_id ≡ to.old.table_id }
-    ensures to_told { to.new.me.0 ≡ told to.old.me.0 (note_of from.old.me.0) }
+    ensures to_informed { to.new.me.0 ≡ informed to.old.me.0 (note_of from.old.me.0) }
 {
     let note = shared.split_seat::<Notes>(from);
     shared.join_seat::<Hears>(to, note);

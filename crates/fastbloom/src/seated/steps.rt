@@ -2,7 +2,7 @@
 ghost use Rattle.std.specs.Prelude.{◌≡◌, ◌<◌};
 ghost use Rattle.atomic_table.specs.Table.{step};
 ghost use mathlib.Core.Option.{none};
-ghost use Rattle.fastbloom.specs.Plays.{SitsAt, loaded, turned_on};
+ghost use Rattle.fastbloom.specs.Plays.{SitsAt, loaded, bits_set};
 ghost use Rattle.fastbloom.specs.declared.seated.rule.Role.TheVariants.{Pass};
 
 use super::rule::{SeatedRule, Sets, Size};
@@ -22,10 +22,10 @@ impl Play<(), Sets> for Loads {
 }
 
 // An `|` makes its positions known, and gained where it finds them clear.
-struct TurnsOn;
+struct SetsBits;
 
-impl Play<(), Sets> for TurnsOn {
-    ghost then = { turned_on };
+impl Play<(), Sets> for SetsBits {
+    ghost then = { bits_set };
 }
 
 /// A load of a word by a pass.
@@ -41,13 +41,13 @@ pub(crate) fn load(shared: &SharedWords, seat: &mut FilterSeat, word: usize) -> 
 }
 
 /// An `|` of a mask into a word by a pass.
-pub(crate) fn turn_on(shared: &SharedWords, seat: &mut FilterSeat, word: usize, mask: u64) -> u64
+pub(crate) fn set_bits(shared: &SharedWords, seat: &mut FilterSeat, word: usize, mask: u64) -> u64
     requires at { SitsAt seat.old shared.now.table_id shared.now.key }
     requires within { word < shared.now.table_id.words }
     requires pass { seat.old.me.0.role ≡ Pass }
     ensures table { seat.new.table_id ≡ seat.old.table_id }
-    ensures step { turned_on (step shared.now.table_id.slots word mask 0 none)
+    ensures step { bits_set (step shared.now.table_id.slots word mask 0 none)
         seat.old.me result seat.new.me }
 {
-    shared.fetch_or::<TurnsOn>(seat, word, mask)
+    shared.fetch_or::<SetsBits>(seat, word, mask)
 }

@@ -8,7 +8,7 @@ ghost use Rattle.bloom_files.specs.FileRefusals.{number_at};
 ghost use Rattle.fastbloom_c.specs.Files.{head_for, line_words_refusal, file_code_or_zero};
 
 use crate::files::{head_for, key_bytes};
-use bloom_blocked::words::LINE;
+use bloom_blocked::by_hash::LINE;
 use bloom_files::{FileError, Layout, head_bytes_in, read_head_in, right_seal};
 use bloom_parts::bit_vector::MAX_WORDS;
 

@@ -4,8 +4,8 @@ ghost use Rattle.std.specs.Prelude.{◌≡◌, ◌↔◌, ℕ, ◌*◌, ◌/◌,
 ghost use Rattle.bloom_parts.specs.Content.{content};
 ghost use Rattle.bloom_blocked.specs.Many.{positions_of_all, TellsFound, TellsNew};
 
+use bloom_blocked::by_hash::LINE;
 use bloom_blocked::many;
-use bloom_blocked::words::LINE;
 
 /// Sets all positions of each of these hashes, and returns whether it did: whether there is a line.
 #[unsafe(no_mangle)]

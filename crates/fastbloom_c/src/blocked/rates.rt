@@ -6,9 +6,9 @@ ghost use Rattle.fastbloom_c.specs.Passed.{MakeLines, vector_of};
 
 use super::shared::make_lines;
 use crate::lent::LentWords;
-use crate::words::{PassedWords, RawWords};
+use crate::passed_words::{PassedWords, RawWords};
+use bloom_blocked::by_hash::LINE;
 use bloom_blocked::rates::{false_pos_of_lines, false_pos_of_shared_lines};
-use bloom_blocked::words::LINE;
 use bloom_parts::bit_vector::MAX_WORDS;
 use bloom_parts::math::Bracket;
 
@@ -26,7 +26,7 @@ pub extern "C" fn fastbloom_blocked_rate_now(
     high: &mut u64,
 ) -> bool
     ensures done { IsTrue result ↔ MakeLines (length words.now) }
-    ensures told { IsTrue result → TellsPart
+    ensures bounds { IsTrue result → TellsPart
         (BoundsLines (line_words words.now) (length words.now / 8) (max 1 num_hashes))
         low.new high.new }
     // A refusal tells nothing.
@@ -63,7 +63,7 @@ pub extern "C" fn fastbloom_blocked_shared_rate_now(
     high: &mut u64,
 ) -> bool
     ensures done { IsTrue result ↔ MakeLines words.len }
-    ensures told { IsTrue result → TellsPart
+    ensures bounds { IsTrue result → TellsPart
         (BoundsLoadedLines (vector_of words.at words.len) (words.len / 8) (max 1 num_hashes))
         low.new high.new }
     // A refusal tells nothing.

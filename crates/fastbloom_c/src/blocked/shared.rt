@@ -10,10 +10,10 @@ ghost use Rattle.bloom_blocked.specs.LineSteps.{LooksInLine, SetsInLine};
 ghost use Rattle.fastbloom_c.specs.Passed.{MakeLines, vector_of};
 
 use crate::lent::LentWords;
+use crate::passed_words::PassedWords;
 use crate::texts::fastbloom_hash;
-use crate::words::PassedWords;
+use bloom_blocked::by_hash::LINE;
 use bloom_blocked::line::{looks_in_line, set_in_line};
-use bloom_blocked::words::LINE;
 use bloom_parts::bit_vector::MAX_WORDS;
 
 // Whether there are eight words, and at most 2^58 - 1.

@@ -6,7 +6,7 @@ ghost use Rattle.fastbloom_c.specs.Passed.{MakeLines, vector_of};
 use super::many::have_room;
 use super::shared::make_lines;
 use crate::lent::LentWords;
-use crate::words::{PassedWords, RawWords};
+use crate::passed_words::{PassedWords, RawWords};
 use bloom_blocked::line::{insert_hashes, looks_in_line, set_in_turn};
 use bloom_parts::bit_vector::Turn;
 use bloom_parts::slices::clear;

@@ -165,6 +165,10 @@ const CALLS: &'static [Calls] = &[
             Op::ContainsItem(0, false),
             Op::Contains(1 << 60, true),
             Op::InsertItem(0, false),
+            // Two hashes of one line. The first has positions in its first and its last word.
+            Op::InsertHashes(&[(5 << 50) + 3]),
+            Op::InsertHashes(&[(5 << 50) + 5]),
+            Op::Contains((5 << 50) + 3, true),
             Op::Take,
             Op::Ones(0),
         ],
@@ -172,7 +176,7 @@ const CALLS: &'static [Calls] = &[
 ];
 
 // Whether each call returns what it is to, and leaves both filters alike, and the others too. The
-// first that doesn't is told.
+// first that doesn't is reported.
 fn hold(rt: &HostRuntime, pair: &mut Pair, other: &Pair, ops: &[Op]) -> bool {
     'ops: for (i, op) in ops.iter().enumerate() {
         let is_right = holds(rt.alloc(), pair, other, op);

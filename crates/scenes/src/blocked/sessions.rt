@@ -112,17 +112,17 @@ fn bits_of(shared: &AtomicBlockedBloomFilter, hashes: &[u64], inserts: bool) -> 
     bits
 }
 
-// Folds what the plain filter told of many hashes, and the shared one of each.
-fn fold_told(
+// Folds what the plain filter answers for many hashes, and the shared one of each.
+fn fold_answers(
     so_far: u64,
-    told: &[u64; 3],
+    answers: &[u64; 3],
     shared: &AtomicBlockedBloomFilter,
     hashes: &[u64],
     inserts: bool,
 ) -> u64 {
     let mut folded = so_far;
     let mut rest = hashes;
-    for word in told {
+    for word in answers {
         let (some, others) = rest.split_at(rest.len().min(64));
         folded = fold_both(folded, *word, bits_of(shared, some, inserts));
         rest = others;
@@ -130,12 +130,12 @@ fn fold_told(
     folded
 }
 
-// Inserts many hashes, of which it is told which are new.
+// Inserts many hashes, and folds which of them are new.
 fn insert_several(pair: &mut Pair, session: u64, so_far: u64) -> u64 {
     let hashes = several(session);
-    let mut told = [0; 3];
-    pair.plain.insert_hashes_tell_new(&hashes, &mut told);
-    fold_told(so_far, &told, &pair.shared, &hashes, true)
+    let mut answers = [0; 3];
+    pair.plain.insert_hashes_tell_new(&hashes, &mut answers);
+    fold_answers(so_far, &answers, &pair.shared, &hashes, true)
 }
 
 // Inserts more hashes at once, and looks as many up.
@@ -145,9 +145,9 @@ fn find_several(pair: &mut Pair, session: u64, so_far: u64) -> u64 {
     pair.plain.insert_hashes(&more);
     pair.shared.insert_hashes(&more);
     draw_from(session, 300, &mut more);
-    let mut told = [0; 3];
-    pair.plain.contains_hashes(&more, &mut told);
-    fold_told(so_far, &told, &pair.shared, &more, false)
+    let mut answers = [0; 3];
+    pair.plain.contains_hashes(&more, &mut answers);
+    fold_answers(so_far, &answers, &pair.shared, &more, false)
 }
 
 // Folds the words, which are taken out of the shared filter. Where they differ, it begins anew.

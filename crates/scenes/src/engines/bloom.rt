@@ -23,7 +23,7 @@ fn words_of(alloc: Global, given: &[&'static str]) -> Result<Vec<String>, AllocE
 }
 
 // Whether a fault was to come, with this text and this status.
-fn is_told(alloc: Global, fault: &Fault, asked: &Asked) -> bool {
+fn is_reported(alloc: Global, fault: &Fault, asked: &Asked) -> bool {
     match asked {
         Ok(_numbers) => false,
         Err((text, status)) => has_text(alloc, fault, text) & (fault.status() == *status),
@@ -34,7 +34,7 @@ fn is_told(alloc: Global, fault: &Fault, asked: &Asked) -> bool {
 fn asks(alloc: Global, words: &[String], asked: &Asked) -> bool {
     match arguments(words) {
         Ok(numbers) => *asked == Ok(numbers),
-        Err(fault) => is_told(alloc, &fault, asked),
+        Err(fault) => is_reported(alloc, &fault, asked),
     }
 }
 
@@ -69,8 +69,8 @@ fn run(
     (ended, word)
 }
 
-// Whether a run writes this, ends so, and leaves this as the filter's first word, if that is told.
-// An end is told once, and no reply waits while a read may wait, or at the end.
+// Whether a run writes this, ends so, and leaves this as the filter's first word, if that is
+// reported. An end is reported once, and no reply waits while a read may wait, or at the end.
 fn serves(alloc: Global, row: &Row, reading: Reading, writing: Writing, word: Option<u64>) -> bool {
     let seen = Seen::new();
     let mut reader = Source::new(row.2.as_bytes(), reading, &seen);

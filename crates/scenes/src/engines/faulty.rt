@@ -9,7 +9,7 @@ use std::io::{ErrorKind, Read, Write};
 pub(crate) struct Reading {
     /// The most bytes of a read.
     pub(crate) piece: usize,
-    /// Whether an interrupted read comes before each.
+    /// Whether three interrupted reads come before each.
     pub(crate) interrupts: bool,
     /// Why it fails where it would tell its end, if it does.
     pub(crate) fails: Option<ErrorKind>,
@@ -22,7 +22,7 @@ pub(crate) const WHOLE: Reading = Reading {
     fails: None,
 };
 
-/// A reader that gives a byte a read, with an interrupted read before each.
+/// A reader that gives a byte a read, with interrupted reads before each.
 pub(crate) const SLOW: Reading = Reading {
     piece: 1,
     interrupts: true,
@@ -36,7 +36,7 @@ pub(crate) const FAILING: Reading = Reading {
     fails: Some(ErrorKind::BrokenPipe),
 };
 
-/// Kinds of failed reads, each of which has to be told as itself.
+/// Kinds of failed reads, each of which has to be reported as itself.
 pub(crate) const KINDS: [ErrorKind; 6] = [
     ErrorKind::BrokenPipe,
     ErrorKind::NotFound,
@@ -82,7 +82,7 @@ const LATER: &[u8] = b" 1\nx\n";
 pub(crate) struct Source<'a> {
     rest: &'a [u8],
     reading: Reading,
-    is_interrupted: bool,
+    interrupted: u8,
     seen: &'a Seen,
 }
 
@@ -91,7 +91,7 @@ impl<'a> Source<'a> {
         Source {
             rest,
             reading,
-            is_interrupted: false,
+            interrupted: 0,
             seen,
         }
     }
@@ -109,8 +109,8 @@ impl<'a> Source<'a> {
 impl<'a> Read for Source<'a> {
     fn read(&mut self, buf: &mut [u8]) -> io::Result<usize> {
         self.seen.note_read();
-        self.is_interrupted = self.reading.interrupts && !self.is_interrupted;
-        if self.is_interrupted {
+        self.interrupted = self.interrupted.wrapping_add(1) % 4;
+        if self.reading.interrupts && self.interrupted > 0 {
             return Err(ErrorKind::Interrupted.into());
         }
         let count = self.rest.len().min(buf.len()).min(self.reading.piece);
@@ -131,7 +131,7 @@ pub(crate) struct Writing {
     pub(crate) piece: usize,
     /// The most bytes of all.
     pub(crate) room: usize,
-    /// Whether an interrupted write comes before each.
+    /// Whether three interrupted writes come before each.
     pub(crate) interrupts: bool,
     /// Whether it takes nothing where no room is left, instead of an error.
     pub(crate) takes_none: bool,
@@ -148,7 +148,7 @@ pub(crate) const ROOMY: Writing = Writing {
     flushes: 1 << 40,
 };
 
-/// A writer that takes a byte a write, with an interrupted write before each.
+/// A writer that takes a byte a write, with interrupted writes before each.
 pub(crate) const NARROW: Writing = Writing {
     piece: 1,
     room: 1 << 40,
@@ -166,7 +166,7 @@ pub(crate) const SHUT: Writing = Writing {
     flushes: 1 << 40,
 };
 
-/// A writer that takes a byte a write, with an interrupted write before each. It fails behind three
+/// A writer that takes a byte a write, with interrupted writes before each. It fails behind three
 /// bytes.
 pub(crate) const FULL: Writing = Writing {
     piece: 1,
@@ -208,7 +208,7 @@ pub(crate) const FLUSHED_ONCE: Writing = Writing {
 pub(crate) struct Sink<'a> {
     pub(crate) written: Vec<u8>,
     writing: Writing,
-    is_interrupted: bool,
+    interrupted: u8,
     seen: &'a Seen,
 }
 
@@ -217,7 +217,7 @@ impl<'a> Sink<'a> {
         Sink {
             written: Vec::new(alloc),
             writing,
-            is_interrupted: false,
+            interrupted: 0,
             seen,
         }
     }
@@ -230,8 +230,8 @@ impl<'a> Sink<'a> {
 
 impl<'a> Write for Sink<'a> {
     fn write(&mut self, buf: &[u8]) -> io::Result<usize> {
-        self.is_interrupted = self.writing.interrupts && !self.is_interrupted;
-        if self.is_interrupted {
+        self.interrupted = self.interrupted.wrapping_add(1) % 4;
+        if self.writing.interrupts && self.interrupted > 0 {
             return Err(ErrorKind::Interrupted.into());
         }
         let room = self.writing.room.saturating_sub(self.written.len());

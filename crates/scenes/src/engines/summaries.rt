@@ -10,13 +10,13 @@ use super::faulty::{Seen, Sink, WHOLE};
 use crate::telling::{has_text, tell_row};
 use fastbloom::{BloomFilter, FilterError};
 use odd::Odd;
-use rows::{A, ACTS, Act, Row, UNREAD};
+use rows::{A, ACTS, Act, Row, UNREAD, reading_of};
 use std::alloc::Global;
 use std::sync::Arc;
 use std::thread::Threads;
 use summaries_engine::{
-    AnyFilter, Begun, Stop, Told, ask, build, build_through, classic_with_bits, load, no_json, put,
-    put_file,
+    AnyFilter, Begun, Stop, Wanted, ask, build, build_through, classic_with_bits, load, no_json,
+    put, put_file,
 };
 
 // The filter of the keys of two inputs.
@@ -85,7 +85,7 @@ fn write_loaded(alloc: Global, odd: &Odd, output: &mut Sink) -> Result<(), Stop>
 fn write_found(alloc: Global, odd: &Odd, filter: &AnyFilter, output: &mut Sink) -> Result<(), Stop>
     requires { IsKeyed filter.now }
 {
-    ask::<10, _, _>(alloc, filter, Told::Found, odd, &["odd"], output)
+    ask::<10, _, _>(alloc, filter, Wanted::Found, odd, &["odd"], output)
 }
 
 // Carries an act out: why it stops early.
@@ -109,7 +109,7 @@ fn carry_out<R: Threads + AllocGlobal>(
 }
 
 // Whether an act ended with this text, or well if it is empty.
-fn is_told(alloc: Global, ended: Result<(), Stop>, text: &str) -> bool {
+fn is_reported(alloc: Global, ended: Result<(), Stop>, text: &str) -> bool {
     match ended {
         Ok(()) => text.is_empty(),
         Err(stop) => has_text(alloc, &stop, text),
@@ -121,14 +121,15 @@ fn is_right<R: Threads + AllocGlobal>(rt: &R, row: &Row, end: usize, filter: &An
     requires { IsKeyed filter.now }
 {
     let seen = Seen::new();
+    let (reading, text) = reading_of(row, end);
     let odd = Odd {
         keys: row.1.get(..end).unwrap_or(&[]),
-        reading: row.2,
+        reading,
         seen: &seen,
     };
     let mut sink = Sink::new(rt.alloc(), row.3, &seen);
     let ended = carry_out(rt, row.0, &odd, filter, &mut sink);
-    is_told(rt.alloc(), ended, row.5) & (sink.has(row.4))
+    is_reported(rt.alloc(), ended, text) & sink.has(row.4)
 }
 
 // The same for each beginning of its input behind which a read may fail: any, or the whole, where

@@ -37,10 +37,10 @@ fn read(
     BloomFilter::read_file(alloc, &mut Source::new(file, reading, &seen))
 }
 
-// Whether a reader and a writer that fail behind this many bytes of the worked file are told, the
-// reader by its kind. Behind all 72 bytes the reader fails instead of telling its end, and the
+// Whether a reader and a writer that fail behind this many bytes of the worked file are reported,
+// the reader by its kind. Behind all 72 bytes the reader fails instead of telling its end, and the
 // writer has room.
-fn are_told(alloc: Global, filter: &BloomFilter, length: usize) -> bool {
+fn are_reported(alloc: Global, filter: &BloomFilter, length: usize) -> bool {
     let beginning = &WORKED[..length.min(72)];
     let kind = KINDS[length % 6];
     let refused = read(alloc, beginning, 5, Some(kind)).err();
@@ -51,21 +51,21 @@ fn are_told(alloc: Global, filter: &BloomFilter, length: usize) -> bool {
 }
 
 // Whether they are, behind any number of bytes.
-fn all_are_told(rt: &HostRuntime, filter: &BloomFilter) -> bool {
+fn all_are_reported(rt: &HostRuntime, filter: &BloomFilter) -> bool {
     let mut all = true;
     for length in 0..=72usize {
-        all &= tell_row(rt, length, are_told(rt.alloc(), filter, length));
+        all &= tell_row(rt, length, are_reported(rt.alloc(), filter, length));
     }
     all
 }
 
 #[test]
-fn streams_that_fail_are_told_at_each_place(rt: HostRuntime) {
-    let are_told = match crabs(rt.alloc()) {
-        Ok(filter) => all_are_told(&rt, &filter),
+fn streams_that_fail_are_reported_at_each_place(rt: HostRuntime) {
+    let are_reported = match crabs(rt.alloc()) {
+        Ok(filter) => all_are_reported(&rt, &filter),
         Err(_refusal) => false,
     };
-    assert!(rt; are_told);
+    assert!(rt; are_reported);
 }
 
 // A filter of this many words, under the key of a seed, with as many items.

@@ -17,20 +17,20 @@ fn say_whole(rt: &HostRuntime, calls: &[&str]) -> bool {
 }
 
 // Prints the call that was refused, or that there was no room for the test.
-fn say_refused(rt: &HostRuntime, scene: &str, refused: Refused) -> bool {
+fn say_refused(rt: &HostRuntime, test: &str, refused: Refused) -> bool {
     if refused.call == THE_TEST {
-        return say(rt, scene, NO_ROOM);
+        return say(rt, test, NO_ROOM);
     }
     say(rt, refused.call, word_of(&Err(refused.reason)))
 }
 
 // Follows a scripted test, and prints how it ended. Each line must be as said, up to a refusal.
 fn say_followed(rt: &HostRuntime, called: &Called) -> bool {
-    let (calls, scene) = called;
-    match follow(rt.alloc(), &scene.make, scene.lines) {
+    let (calls, test) = called;
+    match follow(rt.alloc(), &test.make, test.lines) {
         Ok(None) => say_whole(rt, calls),
         Ok(Some(line)) => tell_row(rt, line, false),
-        Err(refused) => say_refused(rt, scene.name, refused),
+        Err(refused) => say_refused(rt, test.name, refused),
     }
 }
 

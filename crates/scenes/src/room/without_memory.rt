@@ -5,11 +5,11 @@ use crate::answers;
 use crate::follow::first_broken;
 use crate::making::{Pair, Refused, have_words, pair_of};
 use crate::memory::{compare_with, meet_both};
-use crate::scene::Op::{
+use crate::scripted::Op::{
     Clear, Contains, ContainsItem, Estimates, Extend, Insert, InsertAll, InsertItem, Ones,
     UniteWithItself, Words,
 };
-use crate::scene::{Item, Line, Make, Size};
+use crate::scripted::{Item, Line, Make, Size};
 use crate::telling::{NO_ROOM, is_given, say, word_without};
 use fastbloom::{BitsData, BloomFilter, DefaultHasher, FilterData, FilterError};
 use std::alloc::{AllocError, Global};

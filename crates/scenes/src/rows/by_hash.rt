@@ -1,15 +1,15 @@
 //! Filters of words, by hash: replies, words, lists, copies and estimates.
-use crate::scene::Op::{
+use crate::scripted::Op::{
     Build, Clear, Clone, Compare, Contains, Cross, Estimates, Insert, InsertBetween, Ones, Replay,
-    Take, Words,
+    Show, Take, Words,
 };
-use crate::scene::Size::{Expected, Hashes, Numbers};
-use crate::scene::{Make, Scene};
+use crate::scripted::Size::{Expected, Hashes, Numbers};
+use crate::scripted::{Make, ScriptedTest};
 
 // A hash is new, is found once it went in, and sets these bits alone.
 macro_rules! goes_in {
     ($hash:expr, $zeros:expr, $hashes:expr, $words:expr) => {
-        scene!(
+        scripted_test!(
             "a hash goes in",
             Make::Words($zeros, 0, Hashes($hashes)),
             (Contains($hash), false),
@@ -22,7 +22,7 @@ macro_rules! goes_in {
 }
 
 /// Hashes that go in.
-pub(super) const HASHES: &'static [Scene] = &[
+pub(super) const HASHES: &'static [ScriptedTest] = &[
     goes_in!(u64::MAX, &[0], 2, &[9223380832947798016]),
     goes_in!(1, &[0], 2, &[1048577]),
     goes_in!(1, &[0], 3, &[4296015873]),
@@ -33,8 +33,8 @@ pub(super) const HASHES: &'static [Scene] = &[
 ];
 
 /// Calls, one after the other.
-pub(super) const CALLS: &'static [Scene] = &[
-    scene!(
+pub(super) const CALLS: &'static [ScriptedTest] = &[
+    scripted_test!(
         "calls follow one another, a clear before the last",
         Make::Words(&[0], 0, Hashes(2)),
         (Contains(1), false),
@@ -45,14 +45,14 @@ pub(super) const CALLS: &'static [Scene] = &[
         (Contains(1), false),
         (Words(&[0]), true),
     ),
-    scene!(
+    scripted_test!(
         "the same calls as a list",
         Make::Words(&[0], 0, Hashes(2)),
         (Replay(&[false, false, true, true, false]), true),
         (Words(&[0]), true),
     ),
     // Among 192 bits hash 0 has position 0 alone, and hash 1 has 0 and 61.
-    scene!(
+    scripted_test!(
         "calls that only read leave the words",
         Make::Words(&[5, 6, 9], 42, Hashes(2)),
         (Contains(0), true),
@@ -62,17 +62,19 @@ pub(super) const CALLS: &'static [Scene] = &[
         (Cross(false), true),
         (Cross(true), true),
         (Ones(6), true),
+        (Show, true),
         (Estimates, true),
         (Words(&[5, 6, 9]), true),
     ),
     // Among 128 bits the hash 2^63 has position 64, which is the first of word 1.
-    scene!(
+    scripted_test!(
         "an iterator loads a word when it is asked for it",
         Make::Words(&[4, 8], 0, Hashes(1)),
         (InsertBetween(1 << 63, 4, 9), true),
         (Words(&[4, 9]), true),
+        (Clone, true),
     ),
-    scene!(
+    scripted_test!(
         "a take gives the words and sets every one to 0",
         Make::Words(&[5, 6, 9], 0, Hashes(2)),
         (Take, true),
@@ -80,7 +82,7 @@ pub(super) const CALLS: &'static [Scene] = &[
     ),
     // No hashes count as one. The logarithm of 2 times 64 is 44.4, and one is halved nearly ten
     // times to come to a thousandth.
-    scene!(
+    scripted_test!(
         "both kinds of builder give the same shape",
         Make::Words(&[5, 6], 0, Hashes(0)),
         (Build(Make::Words(&[5, 6], 0, Hashes(0)), 128, 1), true),

@@ -1,14 +1,14 @@
 //! Items, one by one and many together, by builders too. The words were made by a model of
 //! SipHash-1-3 and of the positions, in Python.
-use crate::scene::Op::{Compare, ContainsItem, Extend, InsertAll, InsertItem, Words};
-use crate::scene::Size::{Hashes, Numbers};
-use crate::scene::{Item, Make, Scene};
+use crate::scripted::Op::{Compare, ContainsItem, Extend, InsertAll, InsertItem, Words};
+use crate::scripted::Size::{Hashes, Numbers};
+use crate::scripted::{Item, Make, ScriptedTest};
 
 // A filter of 2^25 bits, which is larger than a cache, takes these numbers and as many others:
 // fewer than a group of sixteen, one group, and more.
 macro_rules! is_large {
     ($numbers:expr, $count:expr) => {
-        scene!(
+        scripted_test!(
             "many items go into a large filter",
             Make::Bits(1 << 25, Hashes(3)),
             (Extend(0, 100), true),
@@ -31,16 +31,16 @@ const FORTY: &'static [u64] = &[900; 40];
 const THREE: &'static [u64] = &[90072061271121920, 4755818802984517632];
 
 /// Items that go in one by one.
-pub(super) const ITEMS: &'static [Scene] = &[
+pub(super) const ITEMS: &'static [ScriptedTest] = &[
     // The hash of no bytes under the key bytes 0 to 15 has the position 42 among 64.
-    scene!(
+    scripted_test!(
         "an item that writes nothing has its hash under a key",
         Make::Words(&[0], 0x0001_0203_0405_0607_0809_0a0b_0c0d_0e0f, Hashes(1)),
         (InsertItem(Item::Nothing), false),
         (ContainsItem(Item::Nothing), true),
         (Words(&[1 << 42]), true),
     ),
-    scene!(
+    scripted_test!(
         "an item sets its bits alone",
         Make::Words(&[4, 8], 0, Hashes(1)),
         (ContainsItem(Item::Number(42)), false),
@@ -50,7 +50,7 @@ pub(super) const ITEMS: &'static [Scene] = &[
         (ContainsItem(Item::Number(42)), true),
         (Words(&[4 + (1 << 61), 8]), true),
     ),
-    scene!(
+    scripted_test!(
         "texts go in",
         Make::Words(&[0], 0, Hashes(22)),
         (ContainsItem(Item::Text("42")), false),
@@ -62,8 +62,8 @@ pub(super) const ITEMS: &'static [Scene] = &[
 ];
 
 /// Items that go in beside others, or as a filter is built.
-pub(super) const MANY: &'static [Scene] = &[
-    scene!(
+pub(super) const MANY: &'static [ScriptedTest] = &[
+    scripted_test!(
         "items that are lent or given go in",
         Make::Words(&[0, 0], 0, Hashes(4)),
         (Extend(0, 0), true),
@@ -78,19 +78,19 @@ pub(super) const MANY: &'static [Scene] = &[
     is_large!(FIFTEEN, 15),
     is_large!(SIXTEEN, 16),
     is_large!(FORTY, 40),
-    scene!(
+    scripted_test!(
         "items size a filter under a seed",
         Make::Rate(1, 1000, 42, Numbers(&[1, 2])),
         (ContainsItem(Item::Number(1)), true),
         (Compare(&[1523208063698539739], 22, true), true),
     ),
     // The logarithm of 2 times 128 is 88.7.
-    scene!(
+    scripted_test!(
         "an item goes into the words of a builder",
         Make::Words(&[4, 8], 0, Numbers(&[42])),
         (Words(&[8517732459054174556, 2935565449593601113]), true),
     ),
-    scene!(
+    scripted_test!(
         "an item goes into a filter for a rate",
         Make::Rate(1, 1000, 0, Numbers(&[42])),
         (Words(&[3108657924517117514]), true),

@@ -1,15 +1,15 @@
 //! Whole filters: unions, intersections, clears and comparisons. Words are taken eight at a time,
 //! so that lengths go from below eight to above sixteen. Another filter has another key.
-use crate::scene::Op::{
+use crate::scripted::Op::{
     Clear, Clone, Compare, Contains, Insert, Meet, Ones, UniteWithItself, Words,
 };
-use crate::scene::Size::Hashes;
-use crate::scene::{Make, Scene};
+use crate::scripted::Size::Hashes;
+use crate::scripted::{Make, ScriptedTest};
 
 // A filter of these words meets one of those by a union or an intersection, which makes these.
 macro_rules! meets {
     ($words:expr, $op:expr, $made:expr) => {
-        scene!(
+        scripted_test!(
             "two filters meet word by word",
             Make::Words($words, 0, Hashes(1)),
             ($op, true),
@@ -26,7 +26,7 @@ const DOWN: &'static [u64] = &[8, 7, 6, 5, 4, 3, 2, 1, 0];
 const TWO_AND_THREE: &'static [u64] = &[5, 268435456, 17179869192, 4504699138998272];
 
 /// Unions and intersections.
-pub(super) const MEETINGS: &'static [Scene] = &[
+pub(super) const MEETINGS: &'static [ScriptedTest] = &[
     // 5 or 6 is 7, and 5 and 6 is 4.
     meets!(&[5], Meet(&[6], true), &[7]),
     meets!(&[5], Meet(&[6], false), &[4]),
@@ -34,20 +34,20 @@ pub(super) const MEETINGS: &'static [Scene] = &[
     meets!(&[5, 2], Meet(&[6, 3], false), &[4, 2]),
     meets!(UP, Meet(DOWN, true), &[8, 7, 6, 7, 4, 7, 6, 7, 8]),
     meets!(UP, Meet(DOWN, false), &[0, 1, 2, 1, 4, 1, 2, 1, 0]),
-    scene!(
+    scripted_test!(
         "filters of other shapes don't meet",
         Make::Words(&[5], 0, Hashes(1)),
         (Meet(&[6, 3], true), false),
         (Meet(&[6, 3], false), false),
         (Words(&[5]), true),
     ),
-    scene!(
+    scripted_test!(
         "a shared filter may be its own other",
         Make::Words(&[5, 6, 0], 0, Hashes(2)),
         (UniteWithItself, true),
         (Words(&[5, 6, 0]), true),
     ),
-    scene!(
+    scripted_test!(
         "a union finds what either filter was given, an intersection what both were",
         Make::Words(&[0, 0, 0, 0], 0, Hashes(4)),
         (Insert(1), false),
@@ -64,8 +64,8 @@ pub(super) const MEETINGS: &'static [Scene] = &[
 ];
 
 /// Clears, copies and comparisons.
-pub(super) const COMPARISONS: &'static [Scene] = &[
-    scene!(
+pub(super) const COMPARISONS: &'static [ScriptedTest] = &[
+    scripted_test!(
         "a filter of seven words is cleared, and a copy goes its own way",
         Make::Words(&[u64::MAX; 7], 0, Hashes(1)),
         (Clear, true),
@@ -73,7 +73,7 @@ pub(super) const COMPARISONS: &'static [Scene] = &[
         (Clone, true),
         (Ones(0), true),
     ),
-    scene!(
+    scripted_test!(
         "a filter of seventeen words is cleared",
         Make::Words(&[u64::MAX; 17], 0, Hashes(1)),
         (Ones(1088), true),
@@ -81,7 +81,7 @@ pub(super) const COMPARISONS: &'static [Scene] = &[
         (Ones(0), true),
     ),
     // The eighth word is the last of a group, and the ninth the rest.
-    scene!(
+    scripted_test!(
         "nine words are compared",
         Make::Words(UP, 1, Hashes(2)),
         (Compare(UP, 2, true), true),

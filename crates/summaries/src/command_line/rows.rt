@@ -1,8 +1,8 @@
 //! The arguments of each command.
 
 use super::{
-    ABSENT, BITS, BLOCKED, FILE, FILTER, HASHES, ITEMS, JSON, KEY, MOST_HASHES, OTHER, OUTPUT, RATE,
-    WORKERS, ZERO,
+    ABSENT, BITS, BLOCKED, FILE, FILTER, HASHES, ITEMS, JSON, KEY, MOST_HASHES, OTHER, OUTPUT,
+    RATE, WORKERS, ZERO,
 };
 use clap::ArgAction;
 use clap::builder::ValueParser;

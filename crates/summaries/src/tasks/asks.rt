@@ -9,7 +9,7 @@ use program_parts::first_output;
 use std::cell::Cell;
 use std::io::{BufWriter, Write};
 use std::rt::Files;
-use summaries_engine::{AnyFilter, Shelf, Stop, Told, ask, twice, unsaid, written};
+use summaries_engine::{AnyFilter, Shelf, Stop, Wanted, ask, twice, unsaid, written};
 
 // Asks a filter for the keys of these inputs.
 fn ask_for<R: Files + Input + Eprint + AllocGlobal, O: Write>(
@@ -22,17 +22,17 @@ fn ask_for<R: Files + Input + Eprint + AllocGlobal, O: Write>(
 ) -> Result<(), Stop>
     requires { IsKeyed filter.now }
 {
-    let told = if matches.get_flag(ABSENT) {
-        Told::Absent
+    let wanted = if matches.get_flag(ABSENT) {
+        Wanted::Absent
     } else {
-        Told::Found
+        Wanted::Found
     };
     let keys = Cell::new(0);
     let files = keys_of(rt, matches, is_on, &keys);
     if matches.get_flag(ZERO) {
-        ask::<0, _, _>(rt.alloc(), filter, told, &files, names, output)
+        ask::<0, _, _>(rt.alloc(), filter, wanted, &files, names, output)
     } else {
-        ask::<10, _, _>(rt.alloc(), filter, told, &files, names, output)
+        ask::<10, _, _>(rt.alloc(), filter, wanted, &files, names, output)
     }
 }
 
@@ -51,7 +51,7 @@ fn write_asked<R: Files + Input + Eprint + AllocGlobal, W: Write + Drop>(
         return Err(Stop::Memory);
     };
     let asked = ask_for(rt, matches, is_on, filter, names, &mut output);
-    // A failed flush lost earlier keys, so it is told first.
+    // A failed flush lost earlier keys, so it is reported first.
     let flushed = written(output.flush(), "the keys can't be written");
     drop(output);
     flushed?;

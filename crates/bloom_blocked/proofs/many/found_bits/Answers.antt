@@ -23,9 +23,9 @@ looks-preserved c =
     let i = c.looks.hash-index in
     record {
       bits = bits-next F (content (found ∷ [])) _ i c.looks.invariant.bits
-          (λ p. word-where found i c.contains_branchless.result c.mask_where-found.result
+          (λ p. word-where found i c.contains_either_way.result c.mask_where-found.result
           (omega (arith, c.looks-test.true, c.requires.few))
           (rw (c.looks.invariant.at) at c.mask_where-found.ensures) p
-          ∙ ap (λ b. content (found ∷ []) p || p == i && b) c.contains_branchless.ensures);
+          ∙ ap (λ b. content (found ∷ []) p || p == i && b) c.contains_either_way.ensures);
       at = search rules;
     }

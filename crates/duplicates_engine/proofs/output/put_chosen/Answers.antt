@@ -1,6 +1,6 @@
 use Rattle.std.proofs.Common.{◌≡◌, true, refl, rules}
 use Rattle.duplicates_engine.specs.Kept.{writes_line}
-use Rattle.duplicates_engine.proofs.WriteLemmas.{told-writer, writes-all, writes-part}
+use Rattle.duplicates_engine.proofs.WriteLemmas.{tells-writer, writes-all, writes-part}
 use Rattle.duplicates_engine.proofs.output.put_chosen.Goals as goal
 
 pub returns-in-Ok : goal.returns-in-Ok
@@ -11,4 +11,4 @@ returns-in-Ok g c =
 pub returns-in-Err : goal.returns-in-Err
 returns-in-Err g c =
     let is : writes_line c.args.options c.args.line.now c.args.is_held ≡ true = search rules in
-    rw is (writes-part _ _ _ _ (told-writer _ _ c.of_writer.ensures) c.in-Err.ensures.part)
+    rw is (writes-part _ _ _ _ (tells-writer _ _ c.of_writer.ensures) c.in-Err.ensures.part)

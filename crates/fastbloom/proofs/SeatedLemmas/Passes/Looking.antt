@@ -3,7 +3,7 @@ use Rattle.std.proofs.Common.{◌≡◌, ℕ, ◌+◌, ◌/◌, Bool, false, inl
 use Rattle.std.proofs.lemmas.Bool.{both_ways, cases_lt, or_cases, or_left, or_right, false_from_ne_true}
 use Rattle.atomic_table.specs.Seated.{TableId}
 use Rattle.bloom_parts.specs.Content.{bit_is_on, content}
-use Rattle.fastbloom.specs.Sets.{set_of, on_in}
+use Rattle.fastbloom.specs.Sets.{set_of, ones_in}
 use Rattle.fastbloom.specs.Plays.{FilterSeat, sure_in, Shows, after_load}
 use Rattle.fastbloom.specs.Loads.{LooksAt, Views}
 use Rattle.fastbloom.specs.Passes.{sight_of}
@@ -23,7 +23,7 @@ module _ (table : TableId) (v : Sets) (q found : ℕ) (shown : Shows v (q / 64) 
         | inl begun ↦
             both_ways (bit_is_on found q) off
             (shown q refl (or_left (content v.start q) (set_of v.known q) begun))
-        | inr known ↦ elim (in-either v.known (on_in (q / 64) found) q known) [
+        | inr known ↦ elim (in-either v.known (ones_in (q / 64) found) q known) [
           | inl old ↦
               both_ways (bit_is_on found q) off
               (shown q refl (or_right (content v.start q) (set_of v.known q) old))
@@ -36,11 +36,11 @@ module _ (table : TableId) (v : Sets) (q found : ℕ) (shown : Shows v (q / 64) 
   looks-one answer is = record {
     same = record { filter = refl; start = refl };
     gained = refl;
-    kept = λ p old. in-left v.known (on_in (q / 64) found) p old;
+    kept = λ p old. in-left v.known (ones_in (q / 64) found) p old;
     on = λ yes.
-        in-right v.known (on_in (q / 64) found) q (on-to (q / 64) found q refl (sym is ∙ yes));
+        in-right v.known (ones_in (q / 64) found) q (on-to (q / 64) found q refl (sym is ∙ yes));
     off = λ no. off-after (sym is ∙ no);
-    grown = λ p now. elim (in-either v.known (on_in (q / 64) found) p now) [
+    grown = λ p now. elim (in-either v.known (ones_in (q / 64) found) p now) [
       | inl old ↦ inl old
       | inr new ↦ inr (on-from (q / 64) found p new).0
     ];
@@ -66,13 +66,13 @@ views-next old mid new word found table told before =
     (λ i. (sym table i, sym told.0 i)) record {
       same = record { filter = before.same.filter; start = before.same.start };
       gained = before.gained;
-      kept = λ p is. in-left mid.me.0.known (on_in word found) p (before.kept p is);
+      kept = λ p is. in-left mid.me.0.known (ones_in word found) p (before.kept p is);
       shown = λ p below begun. elim (cases_lt (p / 64) word) [
         | inl earlier ↦
-            in-left mid.me.0.known (on_in word found) p (before.shown p earlier begun)
+            in-left mid.me.0.known (ones_in word found) p (before.shown p earlier begun)
         | inr late ↦
             let here : p / 64 ≡ word = omega arith in
-            in-right mid.me.0.known (on_in word found) p (on-to word found p here
+            in-right mid.me.0.known (ones_in word found) p (on-to word found p here
             (told.1 p here (or_left (content mid.me.0.start p) (set_of mid.me.0.known p)
             (ap (λ l. content l p) before.same.start ∙ begun))))
       ];

@@ -3,7 +3,7 @@ use Rattle.std.proofs.Common.{◌≡◌, ℕ, ◌/◌, ◌%◌, ◌^◌, eqb, sy
 use Rattle.std.proofs.lemmas.Bool.{eqb-true}
 use Rattle.atomic_table.specs.Seated.{TableId}
 use Rattle.bloom_parts.proofs.PublishedLemmas.{bit_is_on-mask}
-use Rattle.fastbloom.specs.Sets.{set_of, on_in}
+use Rattle.fastbloom.specs.Sets.{set_of, ones_in}
 use Rattle.fastbloom.specs.Passes.{Sight}
 use Rattle.fastbloom.specs.declared.seated.rule.Sets.{Sets}
 use Rattle.fastbloom.proofs.SeatedLemmas.Sets.{same-tests, on-from, on-to}
@@ -19,9 +19,9 @@ module _ (q found : ℕ) where
   mask_of = 2 ^ (q % 64)
 
   -- the position alone is set in its mask
-  pub mask-alone : (p : ℕ) → set_of (on_in (q / 64) mask_of) p ≡ eqb p q
+  pub mask-alone : (p : ℕ) → set_of (ones_in (q / 64) mask_of) p ≡ eqb p q
   mask-alone p =
-      same-tests (set_of (on_in (q / 64) mask_of) p) (eqb p q)
+      same-tests (set_of (ones_in (q / 64) mask_of) p) (eqb p q)
       (λ is.
       let there = on-from (q / 64) mask_of p is in
       sym (bit_is_on-mask p q there.0) ∙ there.1)

@@ -63,9 +63,9 @@ module _ {count passes : ℕ} (s : Standing) (rule : IsSeated count passes s) (s
     start = rule.start;
     same_start = by-each (λ z. z.role ≢ Spent → z.start ≡ rule.start)
         (λ is. live.1 ∙ rule.same_start seat v at live.0) rule.same_start;
-    start_on = rule.start_on;
-    known_on = by-each (λ z. IsPart (set_of z.known) (content s.words))
-        (λ p is. rule.known_on seat v at p (known p is)) rule.known_on;
+    start_is_set = rule.start_is_set;
+    known_is_set = by-each (λ z. IsPart (set_of z.known) (content s.words))
+        (λ p is. rule.known_is_set seat v at p (known p is)) rule.known_is_set;
     gained_known = by-each (λ z. IsPart (set_of z.gained) (set_of z.known))
         (λ p is. absurd (nothing p is)) rule.gained_known;
     gained_new = by-each

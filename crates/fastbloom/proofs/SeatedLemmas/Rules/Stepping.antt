@@ -53,7 +53,7 @@ module _ {count passes : ℕ} (s : Standing) (rule : IsSeated count passes s) (s
         (rule.gained_once seat j v u at there (λ same. other (sym same)) p old) theirs
     | inr off ↦
         both_ways (content s.words p) off
-        (rule.known_on j u there p (rule.gained_known j u there p theirs))
+        (rule.known_is_set j u there p (rule.gained_known j u there p theirs))
   ]
 
   -- what one of two seats gained isn't the other's
@@ -117,7 +117,7 @@ module _ {count passes : ℕ} (s : Standing) (rule : IsSeated count passes s) (s
   not-begun p mine = elim (step.gained p mine) [
     | inl old ↦ rule.gained_new seat v at p old
     | inr off ↦ false_from_ne_true (content rule.start p)
-        (λ begun. both_ways (content s.words p) off (rule.start_on p begun))
+        (λ begun. both_ways (content s.words p) off (rule.start_is_set p begun))
   ]
 
   -- no seat is the first
@@ -136,9 +136,9 @@ module _ {count passes : ℕ} (s : Standing) (rule : IsSeated count passes s) (s
     same_start = by-view (λ j u. u.role ≢ Spent → u.start ≡ rule.start)
         (λ live. (step.live live).1 ∙ rule.same_start seat v at (step.live live).0)
         rule.same_start;
-    start_on = λ p begun. step.grown p (rule.start_on p begun);
-    known_on = by-view (λ j u. IsPart (set_of u.known) (content words)) step.known
-        (λ j u there p known. step.grown p (rule.known_on j u there p known));
+    start_is_set = λ p begun. step.grown p (rule.start_is_set p begun);
+    known_is_set = by-view (λ j u. IsPart (set_of u.known) (content words)) step.known
+        (λ j u there p known. step.grown p (rule.known_is_set j u there p known));
     gained_known = by-view (λ j u. IsPart (set_of u.gained) (set_of u.known))
         step.gained_known rule.gained_known;
     gained_new = by-view

@@ -4,7 +4,7 @@ use mathlib.Core.Option.{none}
 use Rattle.atomic_table.specs.Table.{step, keeps, Allows}
 use Rattle.bloom_parts.specs.Content.{content}
 use Rattle.bloom_parts.specs.Places.{IsPart}
-use Rattle.fastbloom.specs.Sets.{set_of, on_in}
+use Rattle.fastbloom.specs.Sets.{set_of, ones_in}
 use Rattle.fastbloom.specs.Rule.{IsSeated}
 use Rattle.fastbloom.specs.Plays.{Sat, after_load, loaded}
 use Rattle.fastbloom.specs.declared.seated.rule.Sets.{Sets}
@@ -24,8 +24,8 @@ loads count passes slots seat me i within pass s rule sized at fits =
     let room : i < length s.words = omega (arith, rule.count) in
     let w : Sets = after_load v i found in
     let on : IsPart (set_of w.known) (content s.words) = λ p known.
-    elim (in-either v.known (on_in i found) p known) [
-      | inl old ↦ rule.known_on seat v at p old
+    elim (in-either v.known (ones_in i found) p known) [
+      | inl old ↦ rule.known_is_set seat v at p old
       | inr new ↦
           let there = on-from i found p new in content-word s.words i p there.0 ∙ there.1
     ] in (
@@ -40,7 +40,7 @@ loads count passes slots seat me i within pass s rule sized at fits =
             grown = λ p on. content-same s.words i p room ∙ on;
             known = λ p known. content-same s.words i p room ∙ on p known;
             gained_known = λ p is.
-                in-left v.known (on_in i found) p (rule.gained_known seat v at p is);
+                in-left v.known (ones_in i found) p (rule.gained_known seat v at p is);
             gained = λ p is. inl is;
             kept = λ p is. is;
             gained_by = λ p is. pass;

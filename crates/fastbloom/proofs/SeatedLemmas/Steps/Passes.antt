@@ -31,8 +31,8 @@ module _ {count passes : ℕ} (s : Standing) (rule : IsSeated count passes s) (s
   pub sure-on : IsPart (sure_in v) (content s.words)
   sure-on p sure = elim (or_cases (content v.start p) (set_of v.known p) sure) [
     | inl begun ↦
-        rule.start_on p (subst (λ l. content l p ≡ true) (rule.same_start seat v at live) begun)
-    | inr known ↦ rule.known_on seat v at p known
+        rule.start_is_set p (subst (λ l. content l p ≡ true) (rule.same_start seat v at live) begun)
+    | inr known ↦ rule.known_is_set seat v at p known
   ]
 
   pub shows : (i : ℕ) → Shows v i (get_or s.words i 0)

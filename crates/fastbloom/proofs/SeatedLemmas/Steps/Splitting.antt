@@ -6,7 +6,7 @@ use Rattle.bloom_parts.specs.Content.{content}
 use Rattle.bloom_parts.specs.Places.{IsPart}
 use Rattle.fastbloom.specs.Sets.{set_of}
 use Rattle.fastbloom.specs.Rule.{Standing, Has, IsSeated}
-use Rattle.fastbloom.specs.Plays.{IsFresh, less_one, one_of, note_of, told, spent_view, Sat}
+use Rattle.fastbloom.specs.Plays.{IsFresh, less_one, one_of, note_of, informed, spent_view, Sat}
 use Rattle.fastbloom.specs.declared.seated.rule.Sets.{Sets}
 use Rattle.fastbloom.specs.declared.seated.rule.Role.TheVariants.{First, Pass, Note, Spent}
 use Rattle.fastbloom.proofs.SeatedLemmas.Sets.{in-none, in-left, in-either}
@@ -58,7 +58,7 @@ begins count passes seat v fresh more s rule at =
     let number = passes-set s.views seat v (less_one v) at in
     let less = kept-by-step s rule seat v (less_one v) s.words at
     (rests s rule v (less_one v) (λ is. (is, refl)) (pass-not_first v v_is, pass-not_first v v_is)
-    (rule.known_on seat v at) (rule.gained_known seat v at) refl (λ p is. v_is)
+    (rule.known_is_set seat v at) (rule.gained_known seat v at) refl (λ p is. v_is)
     (λ is. omega arith)) in
     as-many (omega (arith, number, rule.few))
     (kept-by-split s_less less seat (less_one v) (one_of v)
@@ -69,34 +69,34 @@ begins count passes seat v fresh more s rule at =
 -- a note of what a pass knows arrives
 pub hears : (count passes seat : ℕ) (v : Sets) (other : ℕ) (u : Sets) (me : Sat) → v.role ≡ Pass
     → me ≡ (note_of u, [])
-    → Joins (IsSeated count passes) seat v other me.0 (told v me.0) spent_view
+    → Joins (IsSeated count passes) seat v other me.0 (informed v me.0) spent_view
 hears count passes seat v other u me pass is_note s rule at else there =
     let w : Sets = me.0 in
     let note = ap (λ (x : Sat). x.0.role) is_note in
     let empty = ap (λ (x : Sat). x.0.gained) is_note in
     let none_left = ap (λ (x : Sat). x.0.passes) is_note in
-    let was : Has s other w = sym (set_else s.views seat other (told v w) else) ∙ there in
-    let heard = as-many (same-passes s rule seat v (told v w) at refl)
-    (kept-by-step s rule seat v (told v w) s.words at
-    (rests s rule v (told v w) (λ is. (is, refl))
+    let was : Has s other w = sym (set_else s.views seat other (informed v w) else) ∙ there in
+    let heard = as-many (same-passes s rule seat v (informed v w) at refl)
+    (kept-by-step s rule seat v (informed v w) s.words at
+    (rests s rule v (informed v w) (λ is. (is, refl))
     (pass-not_first v pass, pass-not_first v pass)
     (λ p is. elim (in-either v.known w.known p is) [
-      | inl mine ↦ rule.known_on seat v at p mine
-      | inr theirs ↦ rule.known_on other w was p theirs
+      | inl mine ↦ rule.known_is_set seat v at p mine
+      | inr theirs ↦ rule.known_is_set other w was p theirs
     ])
     (λ p is. in-left v.known w.known p (rule.gained_known seat v at p is)) refl (λ p is. pass)
     (λ is. rule.one_each seat v at pass))) in
-    let s_told : Standing =
-    record { words = s.words; homes = s.homes; views = set s.views seat (told v w) } in
-    as-many (same-passes s_told heard other w spent_view there (sym none_left))
-    (kept-by-step s_told heard other w spent_view s.words there
-    (rests s_told heard w spent_view (λ is. absurd (is refl))
+    let s_heard : Standing =
+    record { words = s.words; homes = s.homes; views = set s.views seat (informed v w) } in
+    as-many (same-passes s_heard heard other w spent_view there (sym none_left))
+    (kept-by-step s_heard heard other w spent_view s.words there
+    (rests s_heard heard w spent_view (λ is. absurd (is refl))
     ((λ is. let bad : Note ≡ First = sym note ∙ is in cc), λ is. let bad : Spent ≡ First = is in cc)
     (λ p is. absurd (in-none p is)) (λ p is. absurd (in-none p is)) (sym empty)
     (λ p is. absurd (in-none p is)) (λ is. let bad : Spent ≡ Pass = is in cc)))
 
 -- the pass that a note joined knows what the note was made of
-pub told-note : (v u : Sets) (now note : Sat) (slots : List (ℕ × Unit {0}))
-    → now ≡ (told v note.0, slots) → note ≡ (note_of u, []) → now.0 ≡ told v (note_of u)
-told-note v u now note slots joined made =
-    ap (λ m. m.0) joined ∙ ap (λ m. told v m.0) made
+pub informed-note : (v u : Sets) (now note : Sat) (slots : List (ℕ × Unit {0}))
+    → now ≡ (informed v note.0, slots) → note ≡ (note_of u, []) → now.0 ≡ informed v (note_of u)
+informed-note v u now note slots joined made =
+    ap (λ m. m.0) joined ∙ ap (λ m. informed v m.0) made

@@ -3,16 +3,16 @@ use Rattle.bloom_parts.specs.FalsePositives.{BoundsPositives}
 use Rattle.fastbloom_c.specs.Estimates.{ones_of}
 use Rattle.fastbloom_c.proofs.counted_rates.fastbloom_rate_now.Goals as goal
 
-pub returns-clause-told : goal.returns-clause-told
-returns-clause-told c told =
+pub returns-clause-bounds : goal.returns-clause-bounds
+returns-clause-bounds c told =
     let at_least_one : c.max.result ≡ max 1 c.args.num_hashes = omega (arith, c.max.ensures) in
     let words = c.args.words.now in
     let rate = c.rate_of-now in
-    let Told : ℕ → Type 0 =
+    let Claim : ℕ → Type 0 =
     λ k. BoundsPositives (64 * length words) k (ones_of words) rate.result in
     record {
       part = rate.result;
-      holds = subst Told at_least_one rate.ensures;
+      holds = subst Claim at_least_one rate.ensures;
       is_low = c.low.ensures;
       is_high = c.high.ensures;
     }

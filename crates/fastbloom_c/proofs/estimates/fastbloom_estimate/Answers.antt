@@ -3,14 +3,14 @@ use Rattle.bloom_parts.specs.Estimates.{EstimatesItems}
 use Rattle.fastbloom_c.specs.Estimates.{ones_of}
 use Rattle.fastbloom_c.proofs.estimates.fastbloom_estimate.Goals as goal
 
-pub returns-clause-told : goal.returns-clause-told
-returns-clause-told c told =
+pub returns-clause-bounds : goal.returns-clause-bounds
+returns-clause-bounds c told =
     let at_least_one : c.max.result ≡ max 1 c.args.num_hashes = omega (arith, c.max.ensures) in
-    let Told : ℕ → Type 0 = λ k. EstimatesItems (64 * length c.args.words.now) k
+    let Claim : ℕ → Type 0 = λ k. EstimatesItems (64 * length c.args.words.now) k
     (ones_of c.args.words.now) c.items_in.result in
     record {
       estimate = c.items_in.result;
-      holds = subst Told at_least_one c.items_in.ensures;
+      holds = subst Claim at_least_one c.items_in.ensures;
       is_low = c.tell.ensures.low;
       is_high = c.tell.ensures.high;
     }

@@ -3,15 +3,15 @@ use Rattle.bloom_parts.specs.Alike.{EstimatesLikeness}
 use Rattle.fastbloom_c.specs.Estimates.{ones_of, ones_of_either}
 use Rattle.fastbloom_c.proofs.estimates.fastbloom_jaccard.Goals as goal
 
-pub returns-clause-told : goal.returns-clause-told
-returns-clause-told c told =
+pub returns-clause-bounds : goal.returns-clause-bounds
+returns-clause-bounds c told =
     let at_least_one : c.max.result ≡ max 1 c.args.num_hashes = omega (arith, c.max.ensures) in
-    let Told : ℕ → Type 0 = λ k. EstimatesLikeness (64 * length c.args.words.now) k
+    let Claim : ℕ → Type 0 = λ k. EstimatesLikeness (64 * length c.args.words.now) k
     (ones_of c.args.words.now) (ones_of c.args.other.now)
     (ones_of_either c.args.words.now c.args.other.now) c.part_in_both-part.result in
     record {
       part = c.part_in_both-part.result;
-      holds = subst Told at_least_one c.part_in_both-part.ensures;
+      holds = subst Claim at_least_one c.part_in_both-part.ensures;
       is_low = c.low.ensures;
       is_high = c.high.ensures;
     }

@@ -2,12 +2,12 @@ use Rattle.std.proofs.Common.{◌≡◌, Bool, Some, arith, length, not, rules, 
 use Rattle.bloom_steps.specs.declared.steps.vocabulary.Call.TheVariants.{Insert}
 use Rattle.bloom_steps.specs.LiveSteps.{MakesCallInTurn}
 use Rattle.fastbloom_c.specs.Passed.{vector_of}
-use Rattle.fastbloom_c.proofs.SharedLemmas.{reply-of-bit, told-all, told-next, told-none}
+use Rattle.fastbloom_c.proofs.SharedLemmas.{reply-of-bit, tells-all, tells-next, tells-none}
 use Rattle.fastbloom_c.proofs.shared_many.insert_each_telling.Goals as goal
 
 pub hashes-init : goal.hashes-init
 hashes-init c = record {
-  told = told-none _ _ _ _ c.clear.ensures.content;
+  tells = tells-none _ _ _ _ c.clear.ensures.content;
   shape = search rules;
   at = search rules;
 }
@@ -19,14 +19,14 @@ hashes-preserved c =
     let v = vector_of c.args.words.now.at c.args.words.now.len in
     let k = c.args.num_hashes in
     let hash = slice_index c.args.hashes.now i in
-    let was = c.insert_in_turn-was_on.result in
-    let last = c.insert_in_turn-was_on.new.turn in
+    let was = c.insert_in_turn-was_set.result in
+    let last = c.insert_in_turn-was_set.new.turn in
     let did =
     subst (λ (b : Bool). MakesCallInTurn v v k (Insert hash) (Some b) c.hashes.turn last)
     (reply-of-bit was)
-    (rw (c.new.ensures) at c.insert_in_turn-was_on.ensures) in
+    (rw (c.new.ensures) at c.insert_in_turn-was_set.ensures) in
     record {
-      told = told-next _ _ i _ _ (not was) _ _ before.told did
+      tells = tells-next _ _ i _ _ (not was) _ _ before.tells did
           (rw (before.at) at c.turn_on_where.ensures.content);
       shape = search rules;
       at = search rules;
@@ -36,4 +36,4 @@ pub returns-clause-fresh : goal.returns-clause-fresh
 returns-clause-fresh c =
     let end = c.hashes.invariant in
     let all : c.hashes.hash-index ≡ length c.args.hashes.now = omega arith in
-    told-all _ _ c.hashes.hash-index _ _ all end.told
+    tells-all _ _ c.hashes.hash-index _ _ all end.tells

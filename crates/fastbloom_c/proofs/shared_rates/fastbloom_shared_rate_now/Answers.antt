@@ -3,15 +3,15 @@ use Rattle.fastbloom_c.specs.Passed.{vector_of}
 use Rattle.fastbloom_c.specs.SharedRates.{BoundsWords}
 use Rattle.fastbloom_c.proofs.shared_rates.fastbloom_shared_rate_now.Goals as goal
 
-pub returns-clause-told : goal.returns-clause-told
-returns-clause-told c told =
+pub returns-clause-bounds : goal.returns-clause-bounds
+returns-clause-bounds c told =
     let at_least_one : c.max.result ≡ max 1 c.args.num_hashes = omega (arith, c.max.ensures) in
     let vector = vector_of c.args.words.at c.args.words.len in
     let rate = c.rate_of-now in
-    let Told : ℕ → Type 0 = λ k. BoundsWords vector k rate.result in
+    let Claim : ℕ → Type 0 = λ k. BoundsWords vector k rate.result in
     record {
       part = rate.result;
-      holds = subst Told at_least_one
+      holds = subst Claim at_least_one
           (rw (c.in-Some.ensures.same, c.shared-words.ensures.at, c.shared-words.ensures.len)
           at rate.ensures);
       is_low = c.low.ensures;

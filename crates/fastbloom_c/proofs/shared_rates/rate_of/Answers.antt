@@ -1,4 +1,4 @@
-use Rattle.std.proofs.Common.{◌≡◌, ◌*◌, ◌≤◌, ap, arith}
+use Rattle.std.proofs.Common.{◌≡◌, ◌*◌, ap, arith}
 use Rattle.bloom_parts.specs.Content.{content}
 use Rattle.bloom_parts.proofs.PublishedLemmas.{count-most}
 use Rattle.fastbloom_c.proofs.shared_rates.rate_of.Goals as goal

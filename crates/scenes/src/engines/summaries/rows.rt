@@ -1,6 +1,6 @@
 //! The files of filters, and acts over them: what each writes, and why it stops early.
 use crate::engines::faulty::{
-    FAILING, FULL, NARROW, ROOMY, Reading, SLOW, STUCK, UNFLUSHED, WHOLE, Writing,
+    FAILING, FULL, KINDS, NARROW, ROOMY, Reading, SLOW, STUCK, UNFLUSHED, WHOLE, Writing,
 };
 
 // The files of filters of 64 bits and two hashes, of the key "a", and of "a" and "b". Their words
@@ -60,8 +60,31 @@ const KEYED: &[u8] = b"fbloom\01\x02\0\0\0\0\0\0\0\
 const KEYED_TEXT: &[u8] =
     b"{\"bits\":{\"bits\":[268500992]},\"num_hashes_minus_one\":1,\"k0\":1,\"k1\":2}\n";
 
-/// What is told of a read that fails.
+/// What is reported about a read that fails, by the first of the kinds.
 pub(crate) const UNREAD: &'static str = "odd: it can't be read: broken pipe";
+
+// The same, of each kind.
+const TOLD: [&'static str; 6] = [
+    UNREAD,
+    "odd: it can't be read: there is no such file",
+    "odd: it can't be read: permission denied",
+    "odd: it can't be read: timed out",
+    "odd: it can't be read: unexpected end of file",
+    "odd: it can't be read: other error",
+];
+
+/// How the input of a row is read of which so many bytes come, and why the act stops: where a read
+/// fails behind them, it is of each kind in turn.
+pub(crate) fn reading_of(row: &Row, end: usize) -> (Reading, &'static str) {
+    if row.5 != UNREAD {
+        return (row.2, row.5);
+    }
+    let reading = Reading {
+        fails: Some(KINDS[end % 6]),
+        ..row.2
+    };
+    (reading, TOLD[end % 6])
+}
 
 /// What is done over an input, and written.
 #[derive(Clone, Copy)]

@@ -1,7 +1,7 @@
 //! The scripted tests that are run again and again.
-use crate::scene::Op::{Build, Clone, Cross, Replay, Take, Words};
-use crate::scene::Size::{Expected, Hashes, Numbers};
-use crate::scene::{Make, Scene};
+use crate::scripted::Op::{Build, Clone, Cross, Replay, Take, Words};
+use crate::scripted::Size::{Expected, Hashes, Numbers};
+use crate::scripted::{Make, ScriptedTest};
 
 // The words 5 and 6 under three hashes and the key of seed 42.
 const STANDING: Make = Make::Words(&[5, 6], 42, Hashes(3));
@@ -9,13 +9,13 @@ const STANDING: Make = Make::Words(&[5, 6], 42, Hashes(3));
 /// Calls that take memory, and scripted tests that make them beside filters that stand. A refused
 /// call ends its test, and leaves the filters as they were. `shared hashes` makes the filters of
 /// every test.
-pub(super) type Called = (&'static [&'static str], Scene);
+pub(super) type Called = (&'static [&'static str], ScriptedTest);
 
 /// The scripted tests: filters that are made, and calls on filters that stand.
 pub(super) const CALLED: &'static [Called] = &[
     (
         &["with_num_bits", "shared with_num_bits", "shared hashes"],
-        scene!(
+        scripted_test!(
             "filters of bits",
             STANDING,
             (Build(Make::Bits(100, Hashes(4)), 128, 4), true),
@@ -24,7 +24,7 @@ pub(super) const CALLED: &'static [Called] = &[
     ),
     (
         &["shared expected_items", "shared items"],
-        scene!(
+        scripted_test!(
             "filters of bits for items",
             STANDING,
             (Build(Make::Bits(1202, Expected(4)), 1216, 211), true),
@@ -34,7 +34,7 @@ pub(super) const CALLED: &'static [Called] = &[
     ),
     (
         &["expected_items by rate", "shared expected_items by rate"],
-        scene!(
+        scripted_test!(
             "filters for a rate",
             STANDING,
             (Build(Make::Rate(1, 2, 0, Expected(1000)), 1472, 1), true),
@@ -43,7 +43,7 @@ pub(super) const CALLED: &'static [Called] = &[
     ),
     (
         &["items by rate", "shared items by rate"],
-        scene!(
+        scripted_test!(
             "filters for items at a rate",
             STANDING,
             (
@@ -61,7 +61,7 @@ pub(super) const CALLED: &'static [Called] = &[
             "shared to_data",
             "shared from_data",
         ],
-        scene!(
+        scripted_test!(
             "copies and data",
             STANDING,
             (Clone, true),
@@ -71,7 +71,7 @@ pub(super) const CALLED: &'static [Called] = &[
     ),
     (
         &["take_words", "replay"],
-        scene!(
+        scripted_test!(
             "a take and a list",
             STANDING,
             (Take, true),

@@ -138,6 +138,10 @@ const UNDISTURBED: &'static [Course] = &[
         [9], 1, 0, [9];
         [0 begins Clear] [0 goes] =>
     },
+    course! {
+        "a run of no event records nothing",
+        [5, 6], 1, 2, [5, 6]; =>
+    },
     // The look-up is undisturbed, since no step cleared a position of its hash. At the moment of
     // its last load its hash isn't contained.
     course! {

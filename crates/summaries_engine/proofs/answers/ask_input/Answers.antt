@@ -9,7 +9,7 @@ use Rattle.summaries_engine.proofs.answers.ask_input.Goals as goal
 pub keys-init : goal.keys-init
 keys-init g c =
     let new = c.new.ensures in
-    answering-none c.args.told g.row.END c.in-Ok.is new.empty new.«open» new.longest
+    answering-none c.args.wanted g.row.END c.in-Ok.is new.empty new.«open» new.longest
 
 -- all keys
 pub returns-in-Ok-End-clause-all : goal.returns-in-Ok-End-clause-all

@@ -4,6 +4,6 @@ use Rattle.summaries_engine.proofs.answers.ask_input.Given as goal
 -- the keys so far were answered
 abbrev pub invariant-keys : goal.invariant-keys
 invariant-keys g l =
-    IsAnswering l.filter l.told g.row.END (g.I.Read.remaining l.fn.input) l.lines
+    IsAnswering l.filter l.wanted g.row.END (g.I.Read.remaining l.fn.input) l.lines
     (g.I.Read.remaining l.input) l.number (g.O.Write.contents l.fn.output)
     (g.O.Write.contents l.output)

@@ -4,7 +4,7 @@ use Rattle.bloom_files.specs.declared.layout.Layout.TheVariants.{Lines}
 use Rattle.summaries_engine.proofs.UnloadedLemmas.{file-right}
 use Rattle.summaries_engine.proofs.loading.load_blocked.Goals as goal
 
--- what is told of the file's error
+-- what is reported of the file's error
 pub returns-in-Err-clause-right : goal.returns-in-Err-clause-right
 returns-in-Err-clause-right g c =
     file-right Lines c.args.start.now c.args.name.now _ _ c.in-Err.why _ _ c.chain.ensures.bytes

@@ -5,7 +5,7 @@ use Rattle.bloom_parts.specs.Content.{content}
 use Rattle.bloom_parts.proofs.PublishedLemmas.{content-zeros}
 use Rattle.bloom_blocked.specs.Lines.{are_in_line}
 use Rattle.bloom_blocked.specs.Many.{after_first}
-use Rattle.bloom_blocked.proofs.TellLemmas.{after-next, told-next}
+use Rattle.bloom_blocked.proofs.TellLemmas.{after-next, tells-next}
 use Rattle.bloom_blocked.proofs.many.telling.insert_each_telling.Goals as goal
 
 pub hashes-init : goal.hashes-init
@@ -27,7 +27,7 @@ hashes-preserved c =
     let did = rw (before.shape) at c.insert_hash-was_set.ensures in
     let early = c.hashes-test.true in
     record {
-      bits = told-next _ _ _ (content c.hashes.words) c.args.hashes.now c.hashes.hash-index _ _ _
+      bits = tells-next _ _ _ (content c.hashes.words) c.args.hashes.now c.hashes.hash-index _ _ _
           (omega (arith, early, c.requires.few)) before.bits before.content did.reply
           (rw (before.at) at c.mask_where-fresh.ensures);
       content = after-next _ _ _ (content c.hashes.words) _ c.args.hashes.now _ early

@@ -2,7 +2,7 @@ use Rattle.std.proofs.Common.{◌≡◌, ◌≤◌, ◌*◌, ◌+◌, length, mi
 use Rattle.std.proofs.Math.Seq.{take-length}
 use Rattle.bloom_parts.specs.Content.{content}
 use Rattle.bloom_blocked.proofs.ManyLemmas.{many-stretch}
-use Rattle.bloom_blocked.proofs.TellLemmas.{told-turn}
+use Rattle.bloom_blocked.proofs.TellLemmas.{tells-turn}
 use Rattle.bloom_blocked.proofs.many.telling.insert_hashes_tell_new.Goals as goal
 
 pub turns-preserved : goal.turns-preserved
@@ -20,7 +20,7 @@ turns-preserved c =
     let did = rw (c.turns.invariant.words_shape) at c.insert_word_telling.ensures in
     let shape = c.turns.invariant.fresh_shape in
     record {
-      bits = told-turn hashes c.turns.fresh c.turns.turn end _ _ _ _
+      bits = tells-turn hashes c.turns.fresh c.turns.turn end _ _ _ _
           (omega (arith, shape, c.requires.room, early, turns)) ended more
           (content c.turns.words) c.turns.invariant.bits before did.fresh;
       content = rw (next)

@@ -2,7 +2,7 @@
 use Rattle.std.proofs.Common.{◌≡◌, Err, rules, ap, sym, ◌∙◌}
 use Rattle.bloom_files.specs.declared.head.Head.{Head}
 use Rattle.bloom_files.specs.FileRefusals.{wrong_seal}
-use Rattle.bloom_files.proofs.ReadLemmas.{told-seal}
+use Rattle.bloom_files.proofs.ReadLemmas.{reported-seal}
 use Rattle.bloom_files.proofs.streams.read_parts.Goals as goal
 
 -- the seal is wrong
@@ -13,7 +13,7 @@ error-seal g c =
     let begun = c.in_ok-start.ensures in
     let read = c.in_ok-read_words.ensures in
     let ended = c.in_ok-read_end.ensures in
-    rw is (told-seal _ _ _ _ begun.size begun.good begun.taken _ _ _ read.taken
+    rw is (reported-seal _ _ _ _ begun.size begun.good begun.taken _ _ _ read.taken
     (read.count ∙ ap (λ (h : Head). h.num_words) c.head_in-head.ensures.head) _ ended.nothing
     ended.end c.args.layout _ c.finish.result c.begin_seal-hasher.ensures
     c.finish.ensures.hash (sym c.in_ok-check_layout.ensures)
@@ -26,7 +26,7 @@ none-refused g c =
     let begun = c.in_ok-start.ensures in
     let read = c.in_ok-read_words.ensures in
     let ended = c.in_ok-read_end.ensures in
-    told-seal _ _ _ _ begun.size begun.good begun.taken _ _ _ read.taken
+    reported-seal _ _ _ _ begun.size begun.good begun.taken _ _ _ read.taken
     (read.count ∙ ap (λ (h : Head). h.num_words) c.head_in-head.ensures.head) _ ended.nothing
     ended.end c.args.layout _ c.finish.result c.begin_seal-hasher.ensures
     c.finish.ensures.hash (sym c.in_ok-check_layout.ensures)

@@ -1,10 +1,10 @@
 use Rattle.bloom_parts.specs.Hashed.{finish, write}
-use Rattle.duplicates_engine.proofs.RotatingLemmas.{told-new, recalls-more}
+use Rattle.duplicates_engine.proofs.RotatingLemmas.{tells-new, recalls-more}
 use Rattle.duplicates_engine.proofs.rotating.RotatingFilterSieve.sift.Goals as goal
 
 pub returns-clause-new : goal.returns-clause-new
 returns-clause-new c = λ is lines came.
-    told-new (λ line. finish (write c.args.self.now.plan.hasher.hasher line)) came.0
+    tells-new (λ line. finish (write c.args.self.now.plan.hasher.hasher line)) came.0
     c.args.self.now c.args.line.now c.insert.result c.rotating_recent_stays_found.ensures
     c.insert.ensures.receives.answers is lines came.1
 

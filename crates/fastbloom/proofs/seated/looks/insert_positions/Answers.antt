@@ -10,9 +10,9 @@ places-init c = (c.new-chain.ensures, c.requires.pass, inserts-begin _ c.args.ha
 pub places-preserved : goal.places-preserved
 places-preserved c = (
   c.next.ensures.moved c.args.hash _ c.places.invariant.0,
-  c.turn_on_position-all_on.ensures.role,
+  c.set_position-all_set.ensures.role,
   inserts-next _ c.args.hash _ _ _ _ _ _ _ _
       (next-place _ _ c.args.hash _ _ _ c.word_count-num_bits.ensures
       (c.next.ensures.value c.args.hash _ c.places.invariant.0) c.index-position.ensures.value)
-      refl c.places.invariant.2 c.turn_on_position-all_on.ensures.inserts,
+      refl c.places.invariant.2 c.set_position-all_set.ensures.inserts,
 )

@@ -10,4 +10,4 @@ abbrev pub invariant-places : goal.invariant-places
 invariant-places l = IsAt l.fn.hash l.counter l.chain
     × (l.seat.me.0.role ≡ Pass)
     × InsertsAs (positions (64 * l.table.shared.table_id.words) l.counter l.fn.hash)
-    (sight_of l.initial.seat) (sight_of l.seat) l.all_on
+    (sight_of l.initial.seat) (sight_of l.seat) l.all_set

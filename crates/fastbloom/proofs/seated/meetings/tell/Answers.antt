@@ -1,5 +1,5 @@
 use Rattle.std.proofs.Common.{◌∙◌, ap}
-use Rattle.fastbloom.proofs.SeatedLemmas.Steps.Splitting.{tells, hears, told-note}
+use Rattle.fastbloom.proofs.SeatedLemmas.Steps.Splitting.{tells, hears, informed-note}
 use Rattle.fastbloom.proofs.seated.meetings.tell.Goals as goal
 
 -- the split keeps the rule
@@ -15,6 +15,6 @@ join_seat-requires c =
     (c.requires.to.here, note.3 ∙ c.requires.from.here, ap (λ m. m.1) note.4, c.requires.some, kept)
 
 -- the pass that the note joined knows what is in it
-pub returns-clause-to_told : goal.returns-clause-to_told
-returns-clause-to_told c =
-    told-note _ c.args.from.now.me.0 _ _ _ c.join_seat.ensures.2 c.split_seat-note.ensures.4
+pub returns-clause-to_informed : goal.returns-clause-to_informed
+returns-clause-to_informed c =
+    informed-note _ c.args.from.now.me.0 _ _ _ c.join_seat.ensures.2 c.split_seat-note.ensures.4

@@ -3,16 +3,16 @@ use Rattle.bloom_blocked.specs.LineRates.{BoundsLoadedLines}
 use Rattle.fastbloom_c.specs.Passed.{vector_of}
 use Rattle.fastbloom_c.proofs.blocked.rates.fastbloom_blocked_shared_rate_now.Goals as goal
 
-pub returns-clause-told : goal.returns-clause-told
-returns-clause-told c told =
+pub returns-clause-bounds : goal.returns-clause-bounds
+returns-clause-bounds c told =
     let at_least_one : c.max.result ≡ max 1 c.args.num_hashes = omega (arith, c.max.ensures) in
     let words = c.args.words in
     let rate = c.rate_of-now in
-    let Told : ℕ → Type 0 =
+    let Claim : ℕ → Type 0 =
     λ k. BoundsLoadedLines (vector_of words.at words.len) (words.len / 8) k rate.result in
     record {
       part = rate.result;
-      holds = subst Told at_least_one
+      holds = subst Claim at_least_one
           (rw (c.in-Some.ensures.same, c.shared-words.ensures.at, c.shared-words.ensures.len)
           at rate.ensures);
       is_low = c.low.ensures;

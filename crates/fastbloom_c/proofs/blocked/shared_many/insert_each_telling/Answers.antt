@@ -1,12 +1,12 @@
 use Rattle.std.proofs.Common.{◌≡◌, Bool, arith, length, not, rules, slice_index, subst}
 use Rattle.bloom_blocked.specs.LineSteps.{SetsInTurn}
 use Rattle.fastbloom_c.specs.Passed.{vector_of}
-use Rattle.fastbloom_c.proofs.SharedLemmas.{reply-of-bit, told-all, told-next, told-none}
+use Rattle.fastbloom_c.proofs.SharedLemmas.{reply-of-bit, tells-all, tells-next, tells-none}
 use Rattle.fastbloom_c.proofs.blocked.shared_many.insert_each_telling.Goals as goal
 
 pub hashes-init : goal.hashes-init
 hashes-init c = record {
-  told = told-none _ _ _ _ c.clear.ensures.content;
+  tells = tells-none _ _ _ _ c.clear.ensures.content;
   shape = search rules;
   at = search rules;
 }
@@ -23,7 +23,7 @@ hashes-preserved c =
     let did = subst (λ (b : Bool). SetsInTurn v k hash b c.hashes.turn last) (reply-of-bit was)
     (rw (c.new.ensures) at c.set_in_turn-was_set.ensures) in
     record {
-      told = told-next _ _ i _ _ (not was) _ _ before.told did
+      tells = tells-next _ _ i _ _ (not was) _ _ before.tells did
           (rw (before.at) at c.turn_on_where.ensures.content);
       shape = search rules;
       at = search rules;
@@ -33,4 +33,4 @@ pub returns-clause-fresh : goal.returns-clause-fresh
 returns-clause-fresh c =
     let end = c.hashes.invariant in
     let all : c.hashes.hash-index ≡ length c.args.hashes.now = omega arith in
-    told-all _ _ c.hashes.hash-index _ _ all end.told
+    tells-all _ _ c.hashes.hash-index _ _ all end.tells

@@ -1,5 +1,0 @@
-use Rattle.bloom_blocked.proofs.LawLemmas.{union_law}
-use Rattle.bloom_blocked.proofs.laws.union_contains.Goals as goal
-
-pub returns : goal.returns
-returns g c = union_law _

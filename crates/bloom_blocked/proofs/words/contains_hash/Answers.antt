@@ -1,9 +1,0 @@
-use Rattle.std.proofs.Common.{◌/◌, length, ◌∙◌}
-use Rattle.bloom_blocked.proofs.LineLemmas.{line-test}
-use Rattle.bloom_blocked.proofs.words.contains_hash.Goals as goal
-
-pub returns : goal.returns
-returns c =
-    (rw (c.inner.ensures) at c.contains_in_few_words.ensures)
-    ∙ line-test c.args.words.now _ (length c.args.words.now / 8) c.args.num_hashes c.args.hash
-    c.line_start-at.ensures.start c.line_start-at.ensures.range

@@ -1,5 +1,0 @@
-use Rattle.bloom_parts.specs.Made.{made_by_turn}
-use Rattle.fastbloom_c.proofs.lent.LentWordsTurnWords.store_zero.Goals as goal
-
-pub returns : goal.returns
-returns c = rw (← c.self.view_is) (made_by_turn _ _ c.store_zero.ensures)
