@@ -17,7 +17,8 @@ returns-clause-summary g c =
     (λ f. (shape : Shape) → IsShapeOf c.args.empty shape
     → SummarizesInputs lies g.row.END names shape (Blocked f))
     (λ f did. summary-made (Blocked c.args.empty) (Blocked f) did.0 c.requires did.2 lies g.row.END
-    names (subst (λ key. HashesInputs lies key g.row.END names did.0) c.key-key.ensures.value did.1))
+    names
+    (subst (λ key. HashesInputs lies key g.row.END names did.0) c.key-key.ensures.value did.1))
     c.filled_from.ensures.all
 
 -- the hashers stay
