@@ -1,5 +1,6 @@
-use Rattle.std.proofs.Common.{◌≡◌, ◌⊎◌, map, subst}
+use Rattle.std.proofs.Common.{◌≡◌, ◌⊎◌, ◌∙◌, ap, map, subst}
 use Rattle.std.proofs.lemmas.Result.{IfErr-weaker, IfOk-weaker}
+use Rattle.bloom_parts.specs.Keys.{key_of}
 use Rattle.fastbloom.specs.declared.parallel.shape.Shape.{Shape}
 use Rattle.summaries_engine.specs.declared.kinds.AnyFilter.TheVariants.{Classic}
 use Rattle.summaries_engine.specs.Answers.{IsKeyed}
@@ -18,7 +19,8 @@ returns-clause-summary g c =
     → SummarizesInputs lies g.row.END names shape (Classic f))
     (λ f did. summary-made (Classic c.args.empty) (Classic f) did.0 c.requires did.2 lies g.row.END
     names
-    (subst (λ key. HashesInputs lies key g.row.END names did.0) c.key-key.ensures.value did.1))
+    (subst (λ key. HashesInputs lies key g.row.END names did.0)
+    (c.key-key.ensures.value ∙ ap key_of c.hasher.ensures.value) did.1))
     c.filled_from.ensures.all
 
 -- the hashers stay

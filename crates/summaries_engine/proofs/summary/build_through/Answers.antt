@@ -1,4 +1,5 @@
-use Rattle.std.proofs.Common.{map, subst}
+use Rattle.std.proofs.Common.{◌∙◌, ap, map, subst}
+use Rattle.bloom_parts.specs.Keys.{key_of}
 use Rattle.summaries_engine.specs.declared.kinds.AnyFilter.TheVariants.{Classic}
 use Rattle.summaries_engine.specs.Inputs.{HashesInputs}
 use Rattle.summaries_engine.proofs.FillerLemmas.{keyed-made, summary-made}
@@ -13,7 +14,8 @@ returns-in-Ok-clause-summary g c =
     rw c.into_filter.ensures
     (summary-made (Classic c.args.empty) (Classic c.in-Ok.crew.filter) did.0 c.requires.empty did.2
     lies g.row.END names
-    (subst (λ key. HashesInputs lies key g.row.END names did.0) c.key-key.ensures.value did.1))
+    (subst (λ key. HashesInputs lies key g.row.END names did.0)
+    (c.key-key.ensures.value ∙ ap key_of c.hasher.ensures.value) did.1))
 
 -- the hashers stay
 pub returns-in-Ok-clause-hasher : goal.returns-in-Ok-clause-hasher
