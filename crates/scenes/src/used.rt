@@ -56,12 +56,12 @@ fn one(alloc: Global) -> Result<BloomFilter, FilterError> {
 }
 
 // Whether a filter that was made again, or in another way, is that of hash 1, with this key.
-fn is_one(made: Result<BloomFilter, FilterError>, key: u128) -> bool {
+fn is_one(made: Result<BloomFilter, FilterError>, key: u64) -> bool {
     match made {
         Ok(filter) => {
             (filter.as_slice() == [WORD_OF_ONE].as_slice())
                 & (filter.num_hashes() == 2)
-                & (filter.hasher().key() == (0, (key as u64).swap_bytes()))
+                & (filter.hasher().key() == (0, key.swap_bytes()))
         }
         Err(_refusal) => false,
     }
