@@ -1,7 +1,6 @@
 # Builds and installs the programs, the library for C, the extension of SQLite and the Python
 # package (docs/INSTALL.md).
-#   make            proves and builds the programs, the library, and the extension where SQLite's
-#                   headers are
+#   make            proves and builds all but the package, the extension where SQLite's headers are
 #   make check      the full check
 #   make install    installs them; DESTDIR goes before each folder
 #   make uninstall  removes what `make install` put there with the same variables
@@ -10,7 +9,6 @@
 
 SHELL = /bin/bash
 .SHELLFLAGS = -euo pipefail -c
-
 PREFIX ?= /usr/local
 prefix = $(PREFIX)
 bindir = $(prefix)/bin
@@ -21,9 +19,7 @@ mandir = $(datadir)/man
 bashdir = $(datadir)/bash-completion/completions
 zshdir = $(datadir)/zsh/site-functions
 fishdir = $(datadir)/fish/vendor_completions.d
-
-# Whether each program has its short name, too. These are common words, so a system may do without.
-SHORT_NAMES = yes
+SHORT_NAMES = yes  # each program by its short name, too: common words, so a system may do without
 
 # The Python package goes where this Python looks below the prefix.
 PYTHON = python3
@@ -32,9 +28,7 @@ pythondir := $(shell command -v '$(PYTHON)' > /dev/null && $(PYTHON) -c "import 
   usual = below + 'python%d.%d/site-packages' % sys.version_info[:2]; \
   print(next((it for it in all if it.startswith(below)), usual))")
 
-# For the library. CC is the compiler with its options.
-export CC CFLAGS LDFLAGS
-
+export CC CFLAGS LDFLAGS  # for the library: CC is the compiler with its options
 PROGRAMS = bloom duplicates summaries
 PAGES = $(PROGRAMS) $(patsubst %,summaries-%,build unite ask info compare)
 HEADERS = $(patsubst %,fastbloom%,.h .hpp _blocked.hpp _blocked_shared.hpp _shared.hpp)
@@ -63,7 +57,8 @@ FILES = $(NAMES:%=$(bindir)/%) $(PAGE_NAMES:%=$(mandir)/man1/%.1) $(NAMES:%=$(ba
   $(HEADERS:%=$(includedir)/%) $(LIBRARIES:%=$(libdir)/%)
 FOLDERS = $(sort $(patsubst %/,%,$(dir $(FILES))))
 MODULES = '$(DESTDIR)$(pythondir)'/fastbloom '$(DESTDIR)$(pythondir)'/fastbloom-*.dist-info
-# The path from one folder to another.
+# A file by its short name, and the path from one folder to another.
+short = $(if $(SHORT),ln -sf fastbloom-$(2) '$(DESTDIR)$(1)'/$(2);)
 between = $(shell realpath -ms --relative-to='$(1)' '$(2)')
 
 .PHONY: all check install man names release uninstall
@@ -115,14 +110,11 @@ install: names all
 	  install -m 644 completions/$$name.bash '$(DESTDIR)$(bashdir)'/fastbloom-$$name; \
 	  install -m 644 completions/_$$name '$(DESTDIR)$(zshdir)'/_fastbloom-$$name; \
 	  install -m 644 completions/$$name.fish '$(DESTDIR)$(fishdir)'/fastbloom-$$name.fish; \
-	  $(if $(SHORT),ln -sf fastbloom-$$name '$(DESTDIR)$(bindir)'/$$name; \
-	  ln -sf fastbloom-$$name '$(DESTDIR)$(bashdir)'/$$name; \
-	  ln -sf fastbloom-$$name.fish '$(DESTDIR)$(fishdir)'/$$name.fish;) \
-	done
+	  $(call short,$(bindir),$$name)$(call short,$(bashdir),$$name)\
+	  $(call short,$(fishdir),$$name.fish)done
 	for name in $(PAGES); do \
 	  install -m 644 man/$$name.1 '$(DESTDIR)$(mandir)'/man1/fastbloom-$$name.1; \
-	  $(if $(SHORT),ln -sf fastbloom-$$name.1 '$(DESTDIR)$(mandir)'/man1/$$name.1;) \
-	done
+	  $(call short,$(mandir)/man1,$$name.1)done
 	install -m 644 $(HEADERS:%=include/%) '$(DESTDIR)$(includedir)'
 	install -m 644 $(ARCHIVE) '$(DESTDIR)$(libdir)'
 	if [ -e out/c/$(SHARED) ]; then \
@@ -147,15 +139,11 @@ ifneq ($(pythondir),)
 	  '$(DESTDIR)$(pythondir)/fastbloom'
 endif
 
-# Folders that are empty then go too, unless the prefix is the system's own.
+# Folders that are empty then go too: below the system's own prefix just one of our name.
 uninstall: names
 	rm -f $(FILES:%='$(DESTDIR)%')
-ifneq ($(pythondir),)
-	rm -rf $(MODULES)
-endif
-ifeq ($(filter /usr /usr/local,$(prefix)),)
-	{ cd '$(DESTDIR)$(prefix)' && rmdir -p --ignore-fail-on-non-empty \
-	  $(foreach it,$(FOLDERS) $(pythondir),'$(call between,$(prefix),$(it))'); } 2> /dev/null || :
-else
-	rmdir '$(DESTDIR)$(libdir)'/cmake/fastbloom 2> /dev/null || :
-endif
+	$(if $(pythondir),rm -rf $(MODULES))
+	$(if $(filter-out /usr /usr/local,$(prefix)),{ cd '$(DESTDIR)$(prefix)' && \
+	  rmdir -p --ignore-fail-on-non-empty $(foreach it,$(FOLDERS) $(pythondir),\
+	  '$(call between,$(prefix),$(it))'); } 2> /dev/null,rmdir \
+	  '$(DESTDIR)$(libdir)'/cmake/fastbloom 2> /dev/null) || :
