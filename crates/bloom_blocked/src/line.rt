@@ -81,6 +81,7 @@ fn touch_lines<W: TurnWords>(words: &Loads<'_, W>, hashes: &[u64])
 }
 
 // Inserts each of these hashes, in order, from this turn on.
+#[inline(always)]
 fn insert_each<W: TurnWords>(words: &W, turn: &mut Turn, num_hashes: u32, hashes: &[u64])
     requires { 8 ≤ (W.vector words.now).count }
     ensures { EachInTurn (WasSetInLine (W.vector words.now) num_hashes) hashes.now
@@ -103,19 +104,25 @@ pub fn load_then_insert<W: TurnWords>(words: &W, turn: &mut Turn, num_hashes: u3
     insert_each(words, turn, num_hashes, hashes);
 }
 
-// Inserts each of these hashes, in order, 64 at a time: the ends of their lines are loaded first.
+// Inserts each of these hashes, in order, 64 at a time: the ends of their lines are loaded first,
+// if the words are one mebibyte or more. The inserts stand in one loop, so that the compiler can
+// have its code in the caller, which keeps the words' address and number in registers.
 #[inline(always)]
 fn insert_together<W: TurnWords>(words: &W, turn: &mut Turn, num_hashes: u32, hashes: &[u64])
     requires { 8 ≤ (W.vector words.now).count }
     ensures { EachInTurn (WasSetInLine (W.vector words.now) num_hashes) hashes.now
         turn.old turn.new }
 {
-    let parts = hashes.len() / LINES_TOGETHER;
-    'parts: for part in 0..parts {
-        let at = LINES_TOGETHER * part;
-        load_then_insert(words, turn, num_hashes, &hashes[at..at + LINES_TOGETHER]);
+    let reads_ahead = words.len() >= WORDS_TO_READ_AHEAD;
+    let mut rest = hashes;
+    'parts: while rest.len() > 0 {
+        let (part, others) = rest.split_at(rest.len().min(LINES_TOGETHER));
+        if reads_ahead {
+            touch_lines(&Loads::of(words), part);
+        }
+        insert_each(words, turn, num_hashes, part);
+        rest = others;
     }
-    load_then_insert(words, turn, num_hashes, &hashes[LINES_TOGETHER * parts..]);
 }
 
 /// Inserts each of these hashes, in order. Where the words are one mebibyte or more, the ends of
@@ -125,10 +132,5 @@ pub fn insert_hashes<W: TurnWords>(words: &W, num_hashes: u32, hashes: &[u64])
     requires { 8 ≤ (W.vector words.now).count }
     ensures { WereSetInLines (W.vector words.now) num_hashes hashes.now }
 {
-    let mut turn = Turn::first();
-    if words.len() >= WORDS_TO_READ_AHEAD {
-        insert_together(words, &mut turn, num_hashes, hashes);
-    } else {
-        insert_each(words, &mut turn, num_hashes, hashes);
-    }
+    insert_together(words, &mut Turn::first(), num_hashes, hashes);
 }
