@@ -52,7 +52,8 @@ macro_rules! file_calls {
             ///
             /// ```
             #[doc = $use]
-            /// let seen = Filter::with_num_bits(512)?.items(["crab"]);
+            /// let mut seen = Filter::with_num_bits(512)?.hashes(4);
+            /// seen.insert("crab");
             /// assert_eq!(Filter::from_bytes(&seen.to_bytes())?, seen);
             /// # Ok::<(), fastbloom_c::Error>(())
             /// ```
@@ -67,10 +68,11 @@ macro_rules! file_calls {
             /// ```
             #[doc = $use]
             /// # use fastbloom_c::Error;
-            /// let bytes = Filter::with_num_bits(512)?.items(["crab"]).to_bytes();
-            /// assert!(Filter::from_bytes(&bytes)?.contains("crab"));
+            /// let mut seen = Filter::with_num_bits(512)?.hashes(4);
+            /// seen.insert("crab");
+            /// assert!(Filter::from_bytes(&seen.to_bytes())?.contains("crab"));
             /// assert_eq!(Filter::from_bytes(b"a text, and no filter"), Err(Error::NotAFilter));
-            /// let bytes = Other::with_num_bits(512)?.items(["crab"]).to_bytes();
+            /// let bytes = Other::with_num_bits(512)?.hashes(4).to_bytes();
             #[doc = concat!("let refused = Error::", stringify!($refused), ";")]
             /// assert_eq!(Filter::from_bytes(&bytes), Err(refused)); // it is of the other kind
             /// # Ok::<(), Error>(())
@@ -128,7 +130,8 @@ macro_rules! file_calls {
             ///
             /// ```
             #[doc = $use]
-            /// let seen = Filter::with_num_bits(512)?.items(["crab"]);
+            /// let mut seen = Filter::with_num_bits(512)?.hashes(4);
+            /// seen.insert("crab");
             /// assert_eq!(Filter::read_file(&mut seen.to_bytes().as_slice())?, seen);
             /// # Ok::<(), Box<dyn std::error::Error>>(())
             /// ```
@@ -220,7 +223,9 @@ macro_rules! file_calls {
             /// # let path = std::env::temp_dir().join(format!("seen.{}", std::process::id()));
             /// let refused = Filter::load(&path).unwrap_err();
             /// assert!(matches!(refused, Error::Input(_))); // there is no file yet
-            /// Filter::with_num_bits(512)?.items(["crab"]).save(&path)?;
+            /// let mut seen = Filter::with_num_bits(512)?.hashes(4);
+            /// seen.insert("crab");
+            /// seen.save(&path)?;
             /// assert!(Filter::load(&path)?.contains("crab"));
             /// # std::fs::remove_file(&path)?;
             /// # Ok::<(), Box<dyn std::error::Error>>(())

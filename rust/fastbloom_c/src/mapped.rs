@@ -209,7 +209,9 @@ macro_rules! mapped_calls {
             ///
             /// ```
             #[doc = $use]
-            /// Filter::with_num_bits(512)?.items(["crab"]).save(&path)?;
+            /// let mut saved = Filter::with_num_bits(512)?.hashes(4);
+            /// saved.insert("crab");
+            /// saved.save(&path)?;
             /// // SAFETY: nobody else knows the file.
             /// let seen = unsafe { Mapped::open(&path)? };
             /// assert!(seen.contains("crab") && !seen.contains("lobster"));
@@ -225,7 +227,9 @@ macro_rules! mapped_calls {
             ///
             /// ```
             #[doc = $use]
-            /// Filter::with_num_bits(512)?.seed(&42).items(["crab"]).save(&path)?;
+            /// let mut saved = Filter::with_num_bits(512)?.seed(&42).hashes(4);
+            /// saved.insert("crab");
+            /// saved.save(&path)?;
             /// // SAFETY: nobody else knows the file.
             /// let seen = unsafe { Mapped::open(&path)? };
             /// assert_eq!(seen.source_hash("crab"), fastbloom_c::hash(seen.key(), "crab"));
@@ -241,7 +245,9 @@ macro_rules! mapped_calls {
             ///
             /// ```
             #[doc = $use]
-            /// Filter::with_num_bits(512)?.items(["crab"]).save(&path)?;
+            /// let mut saved = Filter::with_num_bits(512)?.hashes(4);
+            /// saved.insert("crab");
+            /// saved.save(&path)?;
             /// // SAFETY: nobody else knows the file.
             /// let seen = unsafe { Mapped::open(&path)? };
             /// assert!(seen.contains_hash(seen.source_hash("crab")));
@@ -303,7 +309,8 @@ macro_rules! mapped_calls {
             ///
             /// ```
             #[doc = $use]
-            /// let saved = Filter::with_num_bits(512)?.items(["crab"]);
+            /// let mut saved = Filter::with_num_bits(512)?.hashes(4);
+            /// saved.insert("crab");
             /// saved.save(&path)?;
             /// // SAFETY: nobody else knows the file.
             /// assert_eq!(unsafe { Mapped::open(&path)? }.as_slice(), saved.as_slice());
@@ -320,7 +327,8 @@ macro_rules! mapped_calls {
             ///
             /// ```
             #[doc = $use]
-            /// let saved = Filter::with_num_bits(512)?.items(["crab"]);
+            /// let mut saved = Filter::with_num_bits(512)?.hashes(4);
+            /// saved.insert("crab");
             /// saved.save(&path)?;
             /// // SAFETY: nobody else knows the file.
             /// assert_eq!(unsafe { Mapped::open(&path)? }.to_filter()?, saved);

@@ -67,6 +67,20 @@ macro_rules! shared_calls {
                 $crate::hash(&self.key, val)
             }
 
+            /// A hasher under the key of this filter, for the hash of an item that comes in pieces.
+            ///
+            /// ```
+            #[doc = $use]
+            /// let seen = Shared::from(Plain::with_num_bits(1024)?.items(["crab"]));
+            /// let hash = seen.begin_hash().update("cr").update("ab").finish();
+            /// assert!(seen.contains_hash(hash));
+            /// # Ok::<(), fastbloom_c::Error>(())
+            /// ```
+            #[must_use]
+            pub fn begin_hash(&self) -> $crate::Hasher {
+                $crate::Hasher::new(&self.key)
+            }
+
             /// As [`insert`](Self::insert), by the hash.
             ///
             /// ```
