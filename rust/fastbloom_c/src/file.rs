@@ -81,8 +81,9 @@ macro_rules! file_calls {
             /// # Errors
             /// Of several reasons the first, as `docs/FILE.md` says:
             #[doc = concat!("[`Error::", stringify!($refused), "`]")]
-            /// where the filter is of the other kind. Then [`Error::TooManyHashes`]; and then
-            /// [`Error::Memory`] or [`Error::Seal`].
+            /// where the filter is of the other kind, and of a blocked one then
+            /// [`Error::PartOfALine`]. Then come [`Error::TooManyHashes`]; and [`Error::Memory`] or
+            /// [`Error::Seal`].
             pub fn from_bytes(bytes: &[u8]) -> Result<$filter, Error> {
                 in_file::from_bytes(bytes, &Limits::default())
             }

@@ -282,8 +282,9 @@ macro_rules! plain_calls {
             ///
             /// ```
             #[doc = $use]
-            /// let seen = Filter::with_num_bits(512)?.hashes(1);
-            /// assert_eq!(seen.as_slice(), [0; 8]);
+            /// let mut seen = Filter::with_num_bits(512)?.hashes(1);
+            /// seen.insert_hash(0);
+            /// assert_eq!(seen.as_slice(), [1, 0, 0, 0, 0, 0, 0, 0]);
             /// # Ok::<(), fastbloom_c::Error>(())
             /// ```
             #[must_use]

@@ -1,5 +1,5 @@
-//! The calls of the library over slices. This module, those whose names begin as its own, and
-//! `mapped` alone have unsafe blocks.
+//! The calls of the library over slices. Unsafe blocks are here, in the other modules whose names
+//! begin with `raw`, and in `mapped` alone.
 //!
 //! The library asks for pointers that aren't null and are aligned, to initialized memory of the
 //! length that is given. A reference and a slice of Rust are that, also where there are no
