@@ -2,8 +2,10 @@
 
 use crate::builder::builder_calls;
 use crate::plain_calls::plain_calls;
-use crate::raw_blocked::{self, Line, LINE};
-use crate::{raw, Error, Rate};
+use crate::raw::{self, Kind};
+use crate::raw_calls::blocked;
+use crate::raw_units::{self, Line, Unit, LINE};
+use crate::{Error, Rate};
 
 /// The hundredths of a bit for each item above which one hash more suits.
 const HASH_STEPS: [u128; 15] = [
@@ -38,7 +40,7 @@ fn hashes_for(num_bits: usize, items: usize) -> u32 {
 #[derive(Clone)]
 pub struct BlockedBloomFilter {
     // From 1 to 2^55 - 1.
-    pub(crate) lines: Vec<Line>,
+    pub(crate) words: Vec<Line>,
     // Not zero.
     pub(crate) num_hashes: u32,
     pub(crate) key: raw::Key,
@@ -56,7 +58,7 @@ pub struct BlockedBloomFilter {
 /// ```
 #[derive(Clone)]
 pub struct BlockedBuilderWithBits {
-    lines: Vec<Line>,
+    words: Vec<Line>,
     key: raw::Key,
 }
 
@@ -77,38 +79,12 @@ pub struct BlockedBuilderWithFalsePositiveRate {
 
 plain_calls!(
     BlockedBloomFilter,
-    lines,
-    raw_blocked,
-    "# use fastbloom_c::BlockedBloomFilter as Filter;"
+    blocked,
+    "# use fastbloom_c::BlockedBloomFilter as Filter;",
+    "Eight are a line. They begin where a line of the cache does."
 );
 
 impl BlockedBloomFilter {
-    /// A builder of a filter with at least this many bits, rounded up to whole lines of 512.
-    ///
-    /// ```
-    /// # use fastbloom_c::{BlockedBloomFilter, Error};
-    /// let seen = BlockedBloomFilter::with_num_bits(513)?.hashes(4);
-    /// assert_eq!(seen.num_bits(), 1024); // two lines
-    /// assert_eq!(BlockedBloomFilter::with_num_bits(0).unwrap_err(), Error::ZeroBits);
-    /// # Ok::<(), fastbloom_c::Error>(())
-    /// ```
-    ///
-    /// # Errors
-    /// [`Error::ZeroBits`], [`Error::TooManyWords`] or [`Error::Memory`].
-    pub fn with_num_bits(num_bits: usize) -> Result<BlockedBuilderWithBits, Error> {
-        if num_bits == 0 {
-            return Err(Error::ZeroBits);
-        }
-        let num_lines = num_bits.div_ceil(64 * LINE);
-        if raw::num_bits(LINE * num_lines) == 0 {
-            return Err(Error::TooManyWords);
-        }
-        Ok(BlockedBuilderWithBits {
-            lines: raw_blocked::zeros(num_lines)?,
-            key: [0; 16],
-        })
-    }
-
     /// A builder of a filter that begins with these words, which are copied: eight are a line.
     ///
     /// ```
@@ -131,37 +107,8 @@ impl BlockedBloomFilter {
         }
         // This asks whether the processor can run the library, too.
         let mut builder = Self::with_num_bits(64 * words.len())?;
-        for (line, words) in builder.lines.iter_mut().zip(words.chunks_exact(LINE)) {
-            line.0.copy_from_slice(words);
-        }
+        raw_units::words_mut(&mut builder.words).copy_from_slice(words);
         Ok(builder)
-    }
-
-    /// A builder of a filter with this rate of false positives. One of 1 and above gives the smallest
-    /// filter. That the rate is met was measured, and isn't proved: where a
-    /// [`BloomFilter`](crate::BloomFilter) has more than 32 bits for each item, it isn't met.
-    ///
-    /// ```
-    /// # use fastbloom_c::{BlockedBloomFilter, Rate};
-    /// let builder = BlockedBloomFilter::with_false_pos(Rate::new(1, 1000)?);
-    /// assert!(builder.items(["crab"])?.contains("crab"));
-    /// # Ok::<(), fastbloom_c::Error>(())
-    /// ```
-    pub fn with_false_pos(rate: Rate) -> BlockedBuilderWithFalsePositiveRate {
-        BlockedBuilderWithFalsePositiveRate { rate, key: [0; 16] }
-    }
-
-    /// The words, eight in a line. They begin where a line of the cache does.
-    ///
-    /// ```
-    /// # use fastbloom_c::BlockedBloomFilter;
-    /// let seen = BlockedBloomFilter::from_words(&[5, 6, 0, 0, 0, 0, 0, 0])?.hashes(1);
-    /// assert_eq!(seen.as_slice(), [5, 6, 0, 0, 0, 0, 0, 0]);
-    /// # Ok::<(), fastbloom_c::Error>(())
-    /// ```
-    #[must_use]
-    pub fn as_slice(&self) -> &[u64] {
-        raw_blocked::words(&self.lines)
     }
 }
 
@@ -169,8 +116,9 @@ builder_calls!(
     BlockedBloomFilter,
     BlockedBuilderWithBits,
     BlockedBuilderWithFalsePositiveRate,
-    lines,
-    raw_blocked,
-    64 * LINE,
-    "# use fastbloom_c::BlockedBloomFilter as Filter;"
+    Kind::Blocked,
+    Line,
+    "# use fastbloom_c::BlockedBloomFilter as Filter;",
+    "That the rate is met was measured, and isn't proved: where a \
+     [`BloomFilter`](crate::BloomFilter) has more than 32 bits for each item, it isn't met."
 );

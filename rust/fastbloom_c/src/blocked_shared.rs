@@ -1,6 +1,7 @@
 //! The blocked filter that threads share, and change without waiting for one another.
 
-use crate::raw_blocked::{self, AtomicLine, LINE};
+use crate::raw_calls::blocked_shared;
+use crate::raw_units::{self, AtomicLine, LINE};
 use crate::shared_calls::shared_calls;
 use crate::{raw, BlockedBloomFilter, Error};
 use std::sync::atomic::AtomicU64;
@@ -19,7 +20,7 @@ pub struct AtomicLines(Box<[AtomicLine]>);
 
 impl AsRef<[AtomicU64]> for AtomicLines {
     fn as_ref(&self) -> &[AtomicU64] {
-        raw_blocked::atomic_words(&self.0)
+        raw_units::atomic_words(&self.0)
     }
 }
 
@@ -51,20 +52,12 @@ pub struct AtomicBlockedBloomFilter<W = AtomicLines> {
     key: raw::Key,
 }
 
-/// The calls of the library on words that threads share, by the names of those on other words.
-mod calls {
-    pub use crate::raw_blocked::{
-        shared_contains as contains, shared_contains_hash as contains_hash,
-        shared_contains_hashes as contains_hashes, shared_insert as insert,
-        shared_insert_hash as insert_hash, shared_insert_hashes as insert_hashes,
-        shared_insert_hashes_tell_new as insert_hashes_tell_new,
-    };
-}
-
 shared_calls!(
     AtomicBlockedBloomFilter,
     BlockedBloomFilter,
-    calls,
+    blocked_shared,
+    |lines| AtomicLines(raw_units::share(lines)),
+    |lines: AtomicLines| raw_units::unshare(lines.0),
     "# use fastbloom_c::{AtomicBlockedBloomFilter as Shared, BlockedBloomFilter as Plain};"
 );
 
@@ -104,58 +97,5 @@ impl<W: AsRef<[AtomicU64]>> AtomicBlockedBloomFilter<W> {
             num_hashes: num_hashes.max(1),
             key: [0; 16],
         })
-    }
-
-    // The plain filter whose words a call writes.
-    fn plain(
-        &self,
-        call: fn(&[AtomicU64], &mut [u64]) -> bool,
-    ) -> Result<BlockedBloomFilter, Error> {
-        let mut lines = raw_blocked::zeros(self.as_slice().len() / LINE)?;
-        let done = call(self.as_slice(), raw_blocked::words_mut(&mut lines));
-        assert!(done, "there is room for all");
-        Ok(BlockedBloomFilter {
-            lines,
-            num_hashes: self.num_hashes,
-            key: self.key,
-        })
-    }
-}
-
-/// A plain filter that becomes shared, with its lines where they lie.
-///
-/// ```
-/// # use fastbloom_c::{AtomicBlockedBloomFilter, BlockedBloomFilter};
-/// let plain = BlockedBloomFilter::with_num_bits(1024)?.items(["crab"]);
-/// assert!(AtomicBlockedBloomFilter::from(plain).contains("crab"));
-/// # Ok::<(), fastbloom_c::Error>(())
-/// ```
-impl From<BlockedBloomFilter> for AtomicBlockedBloomFilter {
-    fn from(plain: BlockedBloomFilter) -> Self {
-        AtomicBlockedBloomFilter {
-            words: AtomicLines(raw_blocked::share(plain.lines)),
-            num_hashes: plain.num_hashes,
-            key: plain.key,
-        }
-    }
-}
-
-/// A shared filter that becomes plain, with its lines where they lie.
-///
-/// ```
-/// # use fastbloom_c::{AtomicBlockedBloomFilter, BlockedBloomFilter};
-/// let plain = BlockedBloomFilter::with_num_bits(1024)?.hashes(4);
-/// let seen = AtomicBlockedBloomFilter::from(plain);
-/// seen.insert("crab");
-/// assert!(BlockedBloomFilter::from(seen).contains("crab"));
-/// # Ok::<(), fastbloom_c::Error>(())
-/// ```
-impl From<AtomicBlockedBloomFilter> for BlockedBloomFilter {
-    fn from(shared: AtomicBlockedBloomFilter) -> Self {
-        BlockedBloomFilter {
-            lines: raw_blocked::unshare(shared.words.0),
-            num_hashes: shared.num_hashes,
-            key: shared.key,
-        }
     }
 }

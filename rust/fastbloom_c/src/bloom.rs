@@ -2,6 +2,7 @@
 
 use crate::estimates::some;
 use crate::plain_calls::plain_calls;
+use crate::raw_calls::whole;
 use crate::{raw, Bracket};
 
 /// The hash of an item: SipHash-1-3 of exactly its bytes under the key.
@@ -43,25 +44,12 @@ pub struct BloomFilter {
 
 plain_calls!(
     BloomFilter,
-    words,
-    raw,
-    "# use fastbloom_c::BloomFilter as Filter;"
+    whole,
+    "# use fastbloom_c::BloomFilter as Filter;",
+    "Bit p of the filter is bit p % 64, from the lowest one, of word p / 64."
 );
 
 impl BloomFilter {
-    /// The words. Bit p of the filter is bit p % 64, from the lowest one, of word p / 64.
-    ///
-    /// ```
-    /// # use fastbloom_c::BloomFilter;
-    /// let seen = BloomFilter::from_vec(vec![5, 6])?.hashes(1);
-    /// assert_eq!(seen.as_slice(), [5, 6]);
-    /// # Ok::<(), fastbloom_c::Error>(())
-    /// ```
-    #[must_use]
-    pub fn as_slice(&self) -> &[u64] {
-        &self.words
-    }
-
     /// Two bounds of the classical formula of the rate of false positives, once this many items are
     /// in the filter. The formula is a little below the mean rate: see `false_pos_bounds`.
     ///

@@ -1,8 +1,8 @@
 //! How a filter is made: by its size, its words, or a rate of false positives.
 
-use crate::{raw, BloomFilter, Error, Rate};
-
-const ZERO_KEY: raw::Key = [0; 16];
+use crate::raw::{self, Kind};
+use crate::raw_units::{self, Unit};
+use crate::{BloomFilter, Error, Rate};
 
 // 2^53 times the natural logarithm of 2, as the nearest double has it.
 const LN_TWO: u128 = 6_243_314_768_165_359;
@@ -48,33 +48,6 @@ pub struct BuilderWithFalsePositiveRate {
 }
 
 impl BloomFilter {
-    /// A builder of a filter with at least this many bits, all of which are clear.
-    ///
-    /// ```
-    /// # use fastbloom_c::{BloomFilter, Error};
-    /// let seen = BloomFilter::with_num_bits(1000)?.hashes(4);
-    /// assert_eq!(seen.num_bits(), 1024);
-    /// assert_eq!(BloomFilter::with_num_bits(0), Err(Error::ZeroBits));
-    /// # Ok::<(), Error>(())
-    /// ```
-    ///
-    /// # Errors
-    /// [`Error::ZeroBits`], [`Error::TooManyWords`] or [`Error::Memory`].
-    pub fn with_num_bits(num_bits: usize) -> Result<BuilderWithBits, Error> {
-        if num_bits == 0 {
-            return Err(Error::ZeroBits);
-        }
-        let num_words = num_bits.div_ceil(64);
-        if raw::num_bits(num_words) == 0 {
-            return Err(Error::TooManyWords);
-        }
-        let words = raw::zeros(num_words)?;
-        Ok(BuilderWithBits {
-            words,
-            key: ZERO_KEY,
-        })
-    }
-
     /// A builder of a filter that keeps these words. No words are refused: they would forget all.
     ///
     /// ```
@@ -97,32 +70,61 @@ impl BloomFilter {
         }
         Ok(BuilderWithBits {
             words: bit_vec,
-            key: ZERO_KEY,
+            key: [0; 16],
         })
-    }
-
-    /// A builder of a filter with this rate of false positives. One of 1 and above gives the
-    /// smallest filter, which is the rule of the Rust crate.
-    ///
-    /// ```
-    /// # use fastbloom_c::{BloomFilter, Error, Rate};
-    /// let seen = BloomFilter::with_false_pos(Rate::new(1, 1000)?).items(["42", "🦀"])?;
-    /// assert!(seen.contains("42") && seen.contains("🦀"));
-    /// # Ok::<(), Error>(())
-    /// ```
-    pub fn with_false_pos(rate: Rate) -> BuilderWithFalsePositiveRate {
-        BuilderWithFalsePositiveRate {
-            rate,
-            key: ZERO_KEY,
-        }
     }
 }
 
-/// The calls of the builders of a kind of filters, whose words or lines are in this field and have
-/// so many bits. The examples use the filter as `Filter`.
+/// The calls of the builders of a kind of filters, whose words are in such units. The last text
+/// says what is known of the rate. The examples use the filter as `Filter`.
 macro_rules! builder_calls {
-    ($filter:ident, $with_bits:ident, $with_rate:ident, $words:ident, $raw:ident, $bits:expr,
-     $use:literal) => {
+    ($filter:ident, $with_bits:ident, $with_rate:ident, $kind:expr, $unit:ty, $use:literal,
+     $known:literal) => {
+        impl $filter {
+            /// A builder of a filter with at least this many bits, all of which are clear: they are
+            /// rounded up to words of 64, or to the lines of 512 that a blocked filter has.
+            ///
+            /// ```
+            #[doc = $use]
+            /// # use fastbloom_c::Error;
+            /// let seen = Filter::with_num_bits(1000)?.hashes(4);
+            /// assert_eq!(seen.num_bits(), 1024);
+            /// assert_eq!(Filter::with_num_bits(0).unwrap_err(), Error::ZeroBits);
+            /// # Ok::<(), Error>(())
+            /// ```
+            ///
+            /// # Errors
+            /// [`Error::ZeroBits`], [`Error::TooManyWords`] or [`Error::Memory`].
+            pub fn with_num_bits(num_bits: usize) -> Result<$with_bits, Error> {
+                if num_bits == 0 {
+                    return Err(Error::ZeroBits);
+                }
+                let num_words = <$unit>::WORDS * num_bits.div_ceil(64 * <$unit>::WORDS);
+                if raw::num_bits(num_words) == 0 {
+                    return Err(Error::TooManyWords);
+                }
+                Ok($with_bits {
+                    words: raw_units::zeros(num_words)?,
+                    key: [0; 16],
+                })
+            }
+
+            /// A builder of a filter with this rate of false positives. One of 1 and above gives
+            /// the smallest filter.
+            #[doc = $known]
+            ///
+            /// ```
+            #[doc = $use]
+            /// # use fastbloom_c::{Error, Rate};
+            /// let seen = Filter::with_false_pos(Rate::new(1, 1000)?).items(["42", "🦀"])?;
+            /// assert!(seen.contains("42") && seen.contains("🦀"));
+            /// # Ok::<(), Error>(())
+            /// ```
+            pub fn with_false_pos(rate: Rate) -> $with_rate {
+                $with_rate { rate, key: [0; 16] }
+            }
+        }
+
         impl $with_bits {
             /// Sets the key: the sixteen big-endian bytes of the seed.
             ///
@@ -153,7 +155,7 @@ macro_rules! builder_calls {
             #[must_use]
             pub fn hashes(self, num_hashes: u32) -> $filter {
                 $filter {
-                    $words: self.$words,
+                    words: self.words,
                     num_hashes: num_hashes.max(1),
                     key: self.key,
                 }
@@ -170,7 +172,8 @@ macro_rules! builder_calls {
             /// ```
             #[must_use]
             pub fn expected_items(self, expected_items: usize) -> $filter {
-                let num_hashes = hashes_for($bits * self.$words.len(), expected_items);
+                let num_hashes =
+                    hashes_for(64 * raw_units::words(&self.words).len(), expected_items);
                 self.hashes(num_hashes)
             }
 
@@ -227,13 +230,9 @@ macro_rules! builder_calls {
             /// # Errors
             /// [`Error::SizeOverflow`], [`Error::TooManyWords`] or [`Error::Memory`].
             pub fn expected_items(self, expected_items: usize) -> Result<$filter, Error> {
-                let (count, num_hashes) =
-                    $raw::plan(self.rate.num(), self.rate.den(), expected_items)?;
-                Ok($filter {
-                    $words: $raw::zeros(count)?,
-                    num_hashes,
-                    key: self.key,
-                })
+                let rate = (self.rate.num(), self.rate.den());
+                let (num_words, num_hashes) = raw::plan($kind, rate, expected_items)?;
+                $filter::empty(num_words, num_hashes, self.key)
             }
 
             /// The filter of these items.
@@ -264,7 +263,7 @@ macro_rules! builder_calls {
 
         impl std::fmt::Debug for $with_bits {
             fn fmt(&self, f: &mut std::fmt::Formatter<'_>) -> std::fmt::Result {
-                let num_bits = $bits * self.$words.len();
+                let num_bits = 64 * raw_units::words(&self.words).len();
                 f.debug_struct(stringify!($with_bits))
                     .field("num_bits", &num_bits)
                     .finish_non_exhaustive()
@@ -287,8 +286,8 @@ builder_calls!(
     BloomFilter,
     BuilderWithBits,
     BuilderWithFalsePositiveRate,
-    words,
-    raw,
-    64,
-    "# use fastbloom_c::BloomFilter as Filter;"
+    Kind::Whole,
+    u64,
+    "# use fastbloom_c::BloomFilter as Filter;",
+    "This is the rule of the Rust crate."
 );

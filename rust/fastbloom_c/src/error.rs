@@ -1,5 +1,6 @@
 //! Why a call is refused.
 
+use fastbloom_c_sys as sys;
 use std::hash::{Hash, Hasher};
 use std::sync::Arc;
 use std::{fmt, io, mem};
@@ -65,94 +66,70 @@ pub enum Error {
     Unknown(u8),
 }
 
-impl Error {
-    /// The number that the header `fastbloom.h` names. `OtherShape` and `NotARate` have none.
-    ///
-    /// ```
-    /// use fastbloom_c::Error;
-    ///
-    /// assert_eq!(Error::Seal.code(), Some(14));
-    /// assert_eq!(Error::OtherShape.code(), None);
-    /// ```
-    pub fn code(&self) -> Option<u8> {
-        Some(match self {
-            Error::ZeroBits => fastbloom_c_sys::FASTBLOOM_ZERO_BITS,
-            Error::EmptyWords => fastbloom_c_sys::FASTBLOOM_EMPTY_WORDS,
-            Error::TooManyWords => fastbloom_c_sys::FASTBLOOM_TOO_MANY_WORDS,
-            Error::ZeroRate => fastbloom_c_sys::FASTBLOOM_ZERO_RATE,
-            Error::SizeOverflow => fastbloom_c_sys::FASTBLOOM_SIZE_OVERFLOW,
-            Error::Memory => fastbloom_c_sys::FASTBLOOM_MEMORY,
-            Error::HashCount => fastbloom_c_sys::FASTBLOOM_HASH_COUNT,
-            Error::NotAFilter => fastbloom_c_sys::FASTBLOOM_NOT_A_FILTER,
-            Error::Version => fastbloom_c_sys::FASTBLOOM_UNKNOWN_VERSION,
-            Error::Cut => fastbloom_c_sys::FASTBLOOM_CUT,
-            Error::TooLong => fastbloom_c_sys::FASTBLOOM_TOO_LONG,
-            Error::Reserved => fastbloom_c_sys::FASTBLOOM_RESERVED,
-            Error::Seal => fastbloom_c_sys::FASTBLOOM_SEAL,
-            Error::Input(_) => fastbloom_c_sys::FASTBLOOM_INPUT,
-            Error::Sealed => fastbloom_c_sys::FASTBLOOM_SEALED,
-            Error::PartOfALine => fastbloom_c_sys::FASTBLOOM_PART_OF_A_LINE,
-            Error::Blocked => fastbloom_c_sys::FASTBLOOM_BLOCKED,
-            Error::NotBlocked => fastbloom_c_sys::FASTBLOOM_NOT_BLOCKED,
-            Error::TooManyHashes => fastbloom_c_sys::FASTBLOOM_TOO_MANY_HASHES,
-            Error::Unknown(code) => *code,
-            Error::OtherShape | Error::NotARate => return None,
-        })
-    }
+/// What is told of the errors that have a number, by the number's name and words.
+macro_rules! numbered {
+    ($($error:ident = $number:ident: $words:literal;)+) => {
+        impl Error {
+            /// The number that the header `fastbloom.h` names. `OtherShape` and `NotARate` have none.
+            ///
+            /// ```
+            /// use fastbloom_c::Error;
+            ///
+            /// assert_eq!(Error::Seal.code(), Some(14));
+            /// assert_eq!(Error::OtherShape.code(), None);
+            /// ```
+            pub fn code(&self) -> Option<u8> {
+                Some(match self {
+                    $(Error::$error => sys::$number,)+
+                    Error::Input(_) => sys::FASTBLOOM_INPUT,
+                    Error::Unknown(code) => *code,
+                    Error::OtherShape | Error::NotARate => return None,
+                })
+            }
 
-    /// What a number says that a call of the library returns.
-    pub(crate) fn check(code: u8) -> Result<(), Error> {
-        Err(match code {
-            fastbloom_c_sys::FASTBLOOM_OK => return Ok(()),
-            fastbloom_c_sys::FASTBLOOM_EMPTY_WORDS => Error::EmptyWords,
-            fastbloom_c_sys::FASTBLOOM_TOO_MANY_WORDS => Error::TooManyWords,
-            fastbloom_c_sys::FASTBLOOM_ZERO_RATE => Error::ZeroRate,
-            fastbloom_c_sys::FASTBLOOM_SIZE_OVERFLOW => Error::SizeOverflow,
-            fastbloom_c_sys::FASTBLOOM_HASH_COUNT => Error::HashCount,
-            fastbloom_c_sys::FASTBLOOM_NOT_A_FILTER => Error::NotAFilter,
-            fastbloom_c_sys::FASTBLOOM_UNKNOWN_VERSION => Error::Version,
-            fastbloom_c_sys::FASTBLOOM_RESERVED => Error::Reserved,
-            fastbloom_c_sys::FASTBLOOM_CUT => Error::Cut,
-            fastbloom_c_sys::FASTBLOOM_TOO_LONG => Error::TooLong,
-            fastbloom_c_sys::FASTBLOOM_SEAL => Error::Seal,
-            fastbloom_c_sys::FASTBLOOM_MEMORY => Error::Memory,
-            fastbloom_c_sys::FASTBLOOM_SEALED => Error::Sealed,
-            fastbloom_c_sys::FASTBLOOM_TOO_MANY_HASHES => Error::TooManyHashes,
-            fastbloom_c_sys::FASTBLOOM_PART_OF_A_LINE => Error::PartOfALine,
-            fastbloom_c_sys::FASTBLOOM_BLOCKED => Error::Blocked,
-            fastbloom_c_sys::FASTBLOOM_NOT_BLOCKED => Error::NotBlocked,
-            code => Error::Unknown(code),
-        })
-    }
+            /// What a number says that a call of the library returns.
+            pub(crate) fn check(code: u8) -> Result<(), Error> {
+                Err(match code {
+                    sys::FASTBLOOM_OK => return Ok(()),
+                    $(sys::$number => Error::$error,)+
+                    code => Error::Unknown(code),
+                })
+            }
+        }
+
+        impl fmt::Display for Error {
+            fn fmt(&self, f: &mut fmt::Formatter<'_>) -> fmt::Result {
+                f.write_str(match self {
+                    $(Error::$error => $words,)+
+                    Error::Input(error) => return write!(f, "input failed: {error}"),
+                    Error::OtherShape => "the filters differ in words, hashes or keys",
+                    Error::NotARate => "a rate is above 0 and below 1, with parts below 2^64",
+                    Error::Unknown(code) => return write!(f, "an unknown refusal, {code}"),
+                })
+            }
+        }
+    };
 }
 
-impl fmt::Display for Error {
-    fn fmt(&self, f: &mut fmt::Formatter<'_>) -> fmt::Result {
-        f.write_str(match self {
-            Error::ZeroBits => "zero bits",
-            Error::EmptyWords => "no words",
-            Error::TooManyWords => "too many words",
-            Error::ZeroRate => "rate with a zero part",
-            Error::SizeOverflow => "size too large",
-            Error::Memory => "no memory",
-            Error::HashCount => "hash count out of range",
-            Error::NotAFilter => "not a filter",
-            Error::Version => "a version of the file that isn't known",
-            Error::Cut => "the file is cut",
-            Error::TooLong => "the file goes on after its last word",
-            Error::Reserved => "a reserved byte isn't zero",
-            Error::Blocked => "the file has a blocked filter",
-            Error::NotBlocked => "the file's filter isn't blocked",
-            Error::Seal => "the seal is wrong: the file was changed",
-            Error::Input(error) => return write!(f, "input failed: {error}"),
-            Error::Sealed => "a file with a seal can't be shared",
-            Error::TooManyHashes => "more hashes than are allowed",
-            Error::OtherShape => "the filters differ in words, hashes or keys",
-            Error::PartOfALine => "words that are no whole lines",
-            Error::NotARate => "a rate is above 0 and below 1, with parts below 2^64",
-            Error::Unknown(code) => return write!(f, "an unknown refusal, {code}"),
-        })
-    }
+numbered! {
+    ZeroBits = FASTBLOOM_ZERO_BITS: "zero bits";
+    EmptyWords = FASTBLOOM_EMPTY_WORDS: "no words";
+    TooManyWords = FASTBLOOM_TOO_MANY_WORDS: "too many words";
+    ZeroRate = FASTBLOOM_ZERO_RATE: "rate with a zero part";
+    SizeOverflow = FASTBLOOM_SIZE_OVERFLOW: "size too large";
+    Memory = FASTBLOOM_MEMORY: "no memory";
+    HashCount = FASTBLOOM_HASH_COUNT: "hash count out of range";
+    NotAFilter = FASTBLOOM_NOT_A_FILTER: "not a filter";
+    Version = FASTBLOOM_UNKNOWN_VERSION: "a version of the file that isn't known";
+    Cut = FASTBLOOM_CUT: "the file is cut";
+    TooLong = FASTBLOOM_TOO_LONG: "the file goes on after its last word";
+    Reserved = FASTBLOOM_RESERVED: "a reserved byte isn't zero";
+    Blocked = FASTBLOOM_BLOCKED: "the file has a blocked filter";
+    NotBlocked = FASTBLOOM_NOT_BLOCKED: "the file's filter isn't blocked";
+    Seal = FASTBLOOM_SEAL: "the seal is wrong: the file was changed";
+    Sealed = FASTBLOOM_SEALED: "a file with a seal can't be shared";
+    TooManyHashes = FASTBLOOM_TOO_MANY_HASHES: "more hashes than are allowed";
+    PartOfALine = FASTBLOOM_PART_OF_A_LINE: "words that are no whole lines";
 }
 
 impl std::error::Error for Error {
@@ -210,14 +187,14 @@ impl Hash for Error {
 
 #[cfg(test)]
 mod tests {
-    use super::Error;
+    use super::{sys, Error};
     use std::collections::HashSet;
 
     /// Each number that isn't 0 is an error with this number, also one that no release has yet.
     #[test]
     fn each_number_is_an_error_with_it() {
         assert_eq!(Error::check(0), Ok(()));
-        let errors = (1..=255).filter(|code| *code != fastbloom_c_sys::FASTBLOOM_INPUT);
+        let errors = (1..=255).filter(|code| *code != sys::FASTBLOOM_INPUT);
         let errors: HashSet<_> = errors
             .map(|code| {
                 let error = Error::check(code).expect_err("a refusal");

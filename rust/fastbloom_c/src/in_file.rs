@@ -2,7 +2,7 @@
 
 use crate::many::AT_ONCE;
 use crate::raw::{self, Head, HeadBytes, Key, Kind};
-use crate::raw_blocked::{Line, LINE};
+use crate::raw_units::{words_mut, Unit};
 use crate::Error;
 use std::io::{self, ErrorKind, Read, Write};
 
@@ -56,37 +56,6 @@ impl Limits {
 /// The part of a head that is read before the words. Then come sixteen bytes by which the kinds
 /// differ.
 const NUMBERS: usize = 48;
-
-/// What a filter has its words in: words, or lines of eight.
-pub(crate) trait Unit: Sized {
-    /// How many words it has.
-    const WORDS: usize;
-
-    /// That of eight bytes for each word.
-    fn of(bytes: &[u8]) -> Self;
-}
-
-fn word_of(bytes: &[u8]) -> u64 {
-    u64::from_le_bytes(bytes.try_into().expect("eight bytes"))
-}
-
-impl Unit for u64 {
-    const WORDS: usize = 1;
-
-    fn of(bytes: &[u8]) -> u64 {
-        word_of(bytes)
-    }
-}
-
-impl Unit for Line {
-    const WORDS: usize = LINE;
-
-    fn of(bytes: &[u8]) -> Line {
-        Line(std::array::from_fn(|place| {
-            word_of(&bytes[8 * place..8 * place + 8])
-        }))
-    }
-}
 
 /// A filter that has files.
 pub(crate) trait InFile: Sized {
@@ -190,10 +159,15 @@ fn read_units<U: Unit>(
         if fill(input, bytes)? < bytes.len() {
             return Err(Error::Cut);
         }
-        units
-            .try_reserve(count / U::WORDS)
-            .map_err(|_| Error::Memory)?;
-        units.extend(bytes.chunks_exact(8 * U::WORDS).map(U::of));
+        let (old, more) = (units.len(), count / U::WORDS);
+        units.try_reserve(more).map_err(|_| Error::Memory)?;
+        units.resize(old + more, U::ZERO);
+        for (word, bytes) in words_mut(&mut units[old..])
+            .iter_mut()
+            .zip(bytes.chunks_exact(8))
+        {
+            *word = u64::from_le_bytes(bytes.try_into().expect("eight bytes"));
+        }
         left -= count;
     }
     Ok(units)

@@ -68,7 +68,6 @@
 )]
 
 mod blocked;
-mod blocked_file;
 mod blocked_shared;
 mod bloom;
 mod builder;
@@ -87,9 +86,11 @@ mod rate;
 #[allow(unsafe_code)]
 mod raw;
 #[allow(unsafe_code)]
-mod raw_blocked;
+mod raw_calls;
 #[allow(unsafe_code)]
 mod raw_shared;
+#[allow(unsafe_code)]
+mod raw_units;
 mod rotating;
 mod shared;
 mod shared_calls;

@@ -5,11 +5,17 @@ use crate::{hash, BloomFilter, Rate};
 /// This many hashes are handed to one call of the library.
 pub(crate) const AT_ONCE: usize = 1024;
 
-pub(crate) type Bits = [u64; AT_ONCE / 64];
-
-/// Puts the first bits, as many as told, behind the others.
-pub(crate) fn push_bits(told: &mut Vec<bool>, bits: &Bits, count: usize) {
-    told.extend((0..count).map(|place| bits[place / 64] >> (place % 64) & 1 == 1));
+/// What a call tells of each hash by a bit. It returns false where there are fewer bits than
+/// hashes.
+pub(crate) fn tell(hashes: &[u64], mut call: impl FnMut(&[u64], &mut [u64]) -> bool) -> Vec<bool> {
+    let mut told = Vec::with_capacity(hashes.len());
+    for part in hashes.chunks(AT_ONCE) {
+        let mut bits = [0; AT_ONCE / 64];
+        let done = call(part, &mut bits);
+        assert!(done, "there are bits for all");
+        told.extend((0..part.len()).map(|place| bits[place / 64] >> (place % 64) & 1 == 1));
+    }
+    told
 }
 
 /// Hashes that aren't inserted yet. They are when it is dropped, as by a panic.

@@ -1,10 +1,11 @@
 //! Filters in mapped files. Beside the modules whose names begin with `raw` this one alone has
 //! unsafe code.
 
-use crate::raw::Kind;
+use crate::raw::{self, of_kind, Kind};
+use crate::raw_calls::{blocked, whole};
 use crate::{
-    hash, raw, raw_blocked, AtomicBlockedBloomFilter, AtomicBloomFilter, BlockedBloomFilter,
-    BloomFilter, Error, Limits,
+    hash, AtomicBlockedBloomFilter, AtomicBloomFilter, BlockedBloomFilter, BloomFilter, Error,
+    Limits,
 };
 use fastbloom_c_sys as sys;
 use std::path::Path;
@@ -39,10 +40,7 @@ impl Mapping {
             num_hashes: 0,
             key: [0; 16],
         };
-        let call = match kind {
-            Kind::Whole => sys::fastbloom_map,
-            Kind::Blocked => sys::fastbloom_blocked_map,
-        };
+        let call = of_kind!(kind, fastbloom_map, fastbloom_blocked_map);
         // SAFETY: the path ends in a zero byte, the limits are read, and the filter is written.
         let code = unsafe { call(path.as_ptr(), mode, &limits, &mut filter) };
         if code == sys::FASTBLOOM_INPUT {
@@ -92,228 +90,6 @@ impl Drop for Mapping {
 /// ```
 pub struct MappedFilter(Mapping);
 
-impl MappedFilter {
-    /// Maps the file at a path. A file with a seal is read once, whole, to compare it.
-    ///
-    /// ```
-    /// # use fastbloom_c::{BloomFilter, Error, MappedFilter};
-    /// # let path = std::env::temp_dir().join(format!("mapped_open.{}.bloom", std::process::id()));
-    /// BloomFilter::with_num_bits(1024)?.hashes(4).save(&path)?;
-    /// // SAFETY: nobody else knows the file.
-    /// assert_eq!(unsafe { MappedFilter::open(&path)? }.num_bits(), 1024);
-    /// std::fs::write(&path, "a text, and no filter")?;
-    /// // SAFETY: as above.
-    /// let refused = unsafe { MappedFilter::open(&path) }.unwrap_err();
-    /// assert_eq!(refused, Error::NotAFilter);
-    /// # std::fs::remove_file(&path)?;
-    /// # Ok::<(), Box<dyn std::error::Error>>(())
-    /// ```
-    ///
-    /// # Errors
-    /// As [`BloomFilter::read_file`]; and [`Error::Input`] where the file can't be opened or mapped.
-    ///
-    /// # Safety
-    /// While it is mapped nobody writes into the file or makes it shorter. Another file may take its
-    /// name meanwhile, as by [`BloomFilter::save`].
-    pub unsafe fn open(path: impl AsRef<Path>) -> Result<MappedFilter, Error> {
-        // SAFETY: the caller keeps the same rule.
-        unsafe { MappedFilter::open_with_limits(path, &Limits::default()) }
-    }
-
-    /// As [`open`](Self::open), of a file within these limits.
-    ///
-    /// ```
-    /// # use fastbloom_c::{BloomFilter, Error, Limits, MappedFilter};
-    /// # let name = format!("mappedfilter_limits.{}.bloom", std::process::id());
-    /// # let path = std::env::temp_dir().join(name);
-    /// BloomFilter::with_num_bits(1024)?.hashes(65).save(&path)?;
-    /// let mut limits = Limits { hashes: 65, words: 16 };
-    /// // SAFETY: nobody else knows the file.
-    /// assert!(unsafe { MappedFilter::open_with_limits(&path, &limits) }.is_ok());
-    /// limits.words = 15;
-    /// // SAFETY: as above.
-    /// let refused = unsafe { MappedFilter::open_with_limits(&path, &limits) };
-    /// assert_eq!(refused.err(), Some(Error::TooManyWords));
-    /// # std::fs::remove_file(&path)?;
-    /// # Ok::<(), Box<dyn std::error::Error>>(())
-    /// ```
-    ///
-    /// # Errors
-    /// As [`open`](Self::open).
-    ///
-    /// # Safety
-    /// As [`open`](Self::open).
-    pub unsafe fn open_with_limits(
-        path: impl AsRef<Path>,
-        limits: &Limits,
-    ) -> Result<MappedFilter, Error> {
-        // SAFETY: the caller keeps the same rule.
-        let mapping =
-            unsafe { Mapping::open(Kind::Whole, path.as_ref(), sys::FASTBLOOM_MAP_READ, limits) };
-        mapping.map(MappedFilter)
-    }
-
-    /// Whether an item is contained. False: it was never inserted. True may be a false positive.
-    ///
-    /// ```
-    /// # use fastbloom_c::{BloomFilter, MappedFilter};
-    /// # let name = format!("mapped_contains.{}.bloom", std::process::id());
-    /// # let path = std::env::temp_dir().join(name);
-    /// BloomFilter::with_num_bits(64)?.items(["crab"]).save(&path)?;
-    /// // SAFETY: nobody else knows the file.
-    /// let seen = unsafe { MappedFilter::open(&path)? };
-    /// assert!(seen.contains("crab") && !seen.contains("lobster"));
-    /// # std::fs::remove_file(&path)?;
-    /// # Ok::<(), Box<dyn std::error::Error>>(())
-    /// ```
-    #[must_use]
-    pub fn contains(&self, val: &(impl AsRef<[u8]> + ?Sized)) -> bool {
-        raw::contains(self.as_slice(), self.num_hashes(), self.key(), val.as_ref())
-    }
-
-    /// The hash of an item: SipHash-1-3 of exactly its bytes under the filter's key.
-    ///
-    /// ```
-    /// # use fastbloom_c::{BloomFilter, MappedFilter};
-    /// # let name = format!("mapped_source_hash.{}.bloom", std::process::id());
-    /// # let path = std::env::temp_dir().join(name);
-    /// BloomFilter::with_num_bits(64)?.seed(&42).items(["crab"]).save(&path)?;
-    /// // SAFETY: nobody else knows the file.
-    /// let seen = unsafe { MappedFilter::open(&path)? };
-    /// assert_eq!(seen.source_hash("crab"), fastbloom_c::hash(seen.key(), "crab"));
-    /// # std::fs::remove_file(&path)?;
-    /// # Ok::<(), Box<dyn std::error::Error>>(())
-    /// ```
-    #[must_use]
-    pub fn source_hash(&self, val: &(impl AsRef<[u8]> + ?Sized)) -> u64 {
-        hash(self.key(), val)
-    }
-
-    /// As [`contains`](Self::contains), by the hash.
-    ///
-    /// ```
-    /// # use fastbloom_c::{BloomFilter, MappedFilter};
-    /// # let name = format!("mapped_contains_hash.{}.bloom", std::process::id());
-    /// # let path = std::env::temp_dir().join(name);
-    /// BloomFilter::with_num_bits(64)?.items(["crab"]).save(&path)?;
-    /// // SAFETY: nobody else knows the file.
-    /// let seen = unsafe { MappedFilter::open(&path)? };
-    /// assert!(seen.contains_hash(seen.source_hash("crab")));
-    /// # std::fs::remove_file(&path)?;
-    /// # Ok::<(), Box<dyn std::error::Error>>(())
-    /// ```
-    #[must_use]
-    pub fn contains_hash(&self, hash: u64) -> bool {
-        raw::contains_hash(self.as_slice(), self.num_hashes(), hash)
-    }
-
-    /// The number of hashes, which isn't 0.
-    ///
-    /// ```
-    /// # use fastbloom_c::{BloomFilter, MappedFilter};
-    /// # let name = format!("mapped_num_hashes.{}.bloom", std::process::id());
-    /// # let path = std::env::temp_dir().join(name);
-    /// BloomFilter::with_num_bits(1024)?.hashes(4).save(&path)?;
-    /// // SAFETY: nobody else knows the file.
-    /// let seen = unsafe { MappedFilter::open(&path)? };
-    /// assert_eq!(seen.num_hashes(), 4);
-    /// # std::fs::remove_file(&path)?;
-    /// # Ok::<(), Box<dyn std::error::Error>>(())
-    /// ```
-    #[must_use]
-    pub fn num_hashes(&self) -> u32 {
-        self.0 .0.num_hashes
-    }
-
-    /// The number of bits.
-    ///
-    /// ```
-    /// # use fastbloom_c::{BloomFilter, MappedFilter};
-    /// # let name = format!("mapped_num_bits.{}.bloom", std::process::id());
-    /// # let path = std::env::temp_dir().join(name);
-    /// BloomFilter::with_num_bits(1000)?.hashes(4).save(&path)?;
-    /// // SAFETY: nobody else knows the file.
-    /// let seen = unsafe { MappedFilter::open(&path)? };
-    /// assert_eq!(seen.num_bits(), 1024);
-    /// # std::fs::remove_file(&path)?;
-    /// # Ok::<(), Box<dyn std::error::Error>>(())
-    /// ```
-    #[must_use]
-    pub fn num_bits(&self) -> usize {
-        raw::num_bits(self.as_slice().len())
-    }
-
-    /// The key.
-    ///
-    /// ```
-    /// # use fastbloom_c::{BloomFilter, MappedFilter};
-    /// # let path = std::env::temp_dir().join(format!("mapped_key.{}.bloom", std::process::id()));
-    /// BloomFilter::with_num_bits(1024)?.seed(&42).hashes(4).save(&path)?;
-    /// // SAFETY: nobody else knows the file.
-    /// let seen = unsafe { MappedFilter::open(&path)? };
-    /// assert_eq!(u128::from_be_bytes(*seen.key()), 42);
-    /// # std::fs::remove_file(&path)?;
-    /// # Ok::<(), Box<dyn std::error::Error>>(())
-    /// ```
-    #[must_use]
-    pub fn key(&self) -> &[u8; 16] {
-        &self.0 .0.key
-    }
-
-    /// The words, as they lie in the file.
-    ///
-    /// ```
-    /// # use fastbloom_c::{BloomFilter, MappedFilter};
-    /// # let name = format!("mapped_as_slice.{}.bloom", std::process::id());
-    /// # let path = std::env::temp_dir().join(name);
-    /// BloomFilter::from_vec(vec![5, 6])?.hashes(1).save(&path)?;
-    /// // SAFETY: nobody else knows the file.
-    /// let seen = unsafe { MappedFilter::open(&path)? };
-    /// assert_eq!(seen.as_slice(), [5, 6]);
-    /// # std::fs::remove_file(&path)?;
-    /// # Ok::<(), Box<dyn std::error::Error>>(())
-    /// ```
-    #[must_use]
-    pub fn as_slice(&self) -> &[u64] {
-        // SAFETY: `open` mapped it to be read.
-        unsafe { self.0.as_slice() }
-    }
-
-    /// A filter with words of its own.
-    ///
-    /// ```
-    /// # use fastbloom_c::{BloomFilter, MappedFilter};
-    /// # let name = format!("mapped_to_filter.{}.bloom", std::process::id());
-    /// # let path = std::env::temp_dir().join(name);
-    /// let saved = BloomFilter::with_num_bits(64)?.items(["crab"]);
-    /// saved.save(&path)?;
-    /// // SAFETY: nobody else knows the file.
-    /// let mapped = unsafe { MappedFilter::open(&path)? };
-    /// assert_eq!(mapped.to_filter()?, saved);
-    /// # std::fs::remove_file(&path)?;
-    /// # Ok::<(), Box<dyn std::error::Error>>(())
-    /// ```
-    ///
-    /// # Errors
-    /// [`Error::Memory`].
-    pub fn to_filter(&self) -> Result<BloomFilter, Error> {
-        let mut words = raw::zeros(self.as_slice().len())?;
-        words.copy_from_slice(self.as_slice());
-        let builder = BloomFilter::from_vec(words)?;
-        let seed = u128::from_be_bytes(*self.key());
-        Ok(builder.seed(&seed).hashes(self.num_hashes()))
-    }
-}
-
-impl fmt::Debug for MappedFilter {
-    fn fmt(&self, f: &mut fmt::Formatter<'_>) -> fmt::Result {
-        f.debug_struct("MappedFilter")
-            .field("num_bits", &self.num_bits())
-            .field("num_hashes", &self.num_hashes())
-            .finish_non_exhaustive()
-    }
-}
-
 /// A blocked filter in a file that is mapped to be read, as a [`MappedFilter`].
 ///
 /// ```
@@ -330,240 +106,6 @@ impl fmt::Debug for MappedFilter {
 /// # Ok::<(), Box<dyn std::error::Error>>(())
 /// ```
 pub struct MappedBlockedFilter(Mapping);
-
-impl MappedBlockedFilter {
-    /// Maps the file at a path. A file with a seal is read once, whole, to compare it.
-    ///
-    /// ```
-    /// # use fastbloom_c::{BlockedBloomFilter, Error, MappedBlockedFilter};
-    /// # let name = format!("mapped_lines_open.{}.bloom", std::process::id());
-    /// # let path = std::env::temp_dir().join(name);
-    /// BlockedBloomFilter::with_num_bits(1024)?.hashes(4).save(&path)?;
-    /// // SAFETY: nobody else knows the file.
-    /// assert_eq!(unsafe { MappedBlockedFilter::open(&path)? }.num_bits(), 1024);
-    /// std::fs::write(&path, "a text, and no filter")?;
-    /// // SAFETY: as above.
-    /// let refused = unsafe { MappedBlockedFilter::open(&path) }.unwrap_err();
-    /// assert_eq!(refused, Error::NotAFilter);
-    /// # std::fs::remove_file(&path)?;
-    /// # Ok::<(), Box<dyn std::error::Error>>(())
-    /// ```
-    ///
-    /// # Errors
-    /// As [`BlockedBloomFilter::read_file`]; and [`Error::Input`] where the file can't be opened or
-    /// mapped.
-    ///
-    /// # Safety
-    /// As [`MappedFilter::open`].
-    pub unsafe fn open(path: impl AsRef<Path>) -> Result<MappedBlockedFilter, Error> {
-        // SAFETY: the caller keeps the same rule.
-        unsafe { MappedBlockedFilter::open_with_limits(path, &Limits::default()) }
-    }
-
-    /// As [`open`](Self::open), of a file within these limits.
-    ///
-    /// ```
-    /// # use fastbloom_c::{BlockedBloomFilter, Error, Limits, MappedBlockedFilter};
-    /// # let name = format!("mappedblockedfilter_limits.{}.bloom", std::process::id());
-    /// # let path = std::env::temp_dir().join(name);
-    /// BlockedBloomFilter::with_num_bits(1024)?.hashes(65).save(&path)?;
-    /// let mut limits = Limits { hashes: 65, words: 16 };
-    /// // SAFETY: nobody else knows the file.
-    /// assert!(unsafe { MappedBlockedFilter::open_with_limits(&path, &limits) }.is_ok());
-    /// limits.words = 15;
-    /// // SAFETY: as above.
-    /// let refused = unsafe { MappedBlockedFilter::open_with_limits(&path, &limits) };
-    /// assert_eq!(refused.err(), Some(Error::TooManyWords));
-    /// # std::fs::remove_file(&path)?;
-    /// # Ok::<(), Box<dyn std::error::Error>>(())
-    /// ```
-    ///
-    /// # Errors
-    /// As [`open`](Self::open).
-    ///
-    /// # Safety
-    /// As [`open`](Self::open).
-    pub unsafe fn open_with_limits(
-        path: impl AsRef<Path>,
-        limits: &Limits,
-    ) -> Result<MappedBlockedFilter, Error> {
-        // SAFETY: the caller keeps the same rule.
-        let mapping = unsafe {
-            Mapping::open(
-                Kind::Blocked,
-                path.as_ref(),
-                sys::FASTBLOOM_MAP_READ,
-                limits,
-            )
-        };
-        mapping.map(MappedBlockedFilter)
-    }
-
-    fn lines(&self) -> &[raw_blocked::Line] {
-        // (a mapping begins at a page, and the words 64 bytes behind)
-        raw_blocked::lines(self.as_slice())
-    }
-
-    /// Whether an item is contained. It may be a false positive, and is never false for one that was
-    /// inserted.
-    ///
-    /// ```
-    /// # use fastbloom_c::{BlockedBloomFilter, MappedBlockedFilter};
-    /// # let name = format!("mapped_lines_contains.{}.bloom", std::process::id());
-    /// # let path = std::env::temp_dir().join(name);
-    /// BlockedBloomFilter::with_num_bits(512)?.items(["crab"]).save(&path)?;
-    /// // SAFETY: nobody else knows the file.
-    /// let seen = unsafe { MappedBlockedFilter::open(&path)? };
-    /// assert!(seen.contains("crab") && !seen.contains("lobster"));
-    /// # std::fs::remove_file(&path)?;
-    /// # Ok::<(), Box<dyn std::error::Error>>(())
-    /// ```
-    #[must_use]
-    pub fn contains(&self, val: &(impl AsRef<[u8]> + ?Sized)) -> bool {
-        raw_blocked::contains(self.lines(), self.num_hashes(), self.key(), val.as_ref())
-    }
-
-    /// The hash of an item: SipHash-1-3 of exactly its bytes under the filter's key.
-    ///
-    /// ```
-    /// # use fastbloom_c::{BlockedBloomFilter, MappedBlockedFilter};
-    /// # let name = format!("mapped_lines_source_hash.{}.bloom", std::process::id());
-    /// # let path = std::env::temp_dir().join(name);
-    /// BlockedBloomFilter::with_num_bits(512)?.seed(&42).items(["crab"]).save(&path)?;
-    /// // SAFETY: nobody else knows the file.
-    /// let seen = unsafe { MappedBlockedFilter::open(&path)? };
-    /// assert_eq!(seen.source_hash("crab"), fastbloom_c::hash(seen.key(), "crab"));
-    /// # std::fs::remove_file(&path)?;
-    /// # Ok::<(), Box<dyn std::error::Error>>(())
-    /// ```
-    #[must_use]
-    pub fn source_hash(&self, val: &(impl AsRef<[u8]> + ?Sized)) -> u64 {
-        hash(self.key(), val)
-    }
-
-    /// As [`contains`](Self::contains), by the hash.
-    ///
-    /// ```
-    /// # use fastbloom_c::{BlockedBloomFilter, MappedBlockedFilter};
-    /// # let name = format!("mapped_lines_contains_hash.{}.bloom", std::process::id());
-    /// # let path = std::env::temp_dir().join(name);
-    /// BlockedBloomFilter::with_num_bits(512)?.items(["crab"]).save(&path)?;
-    /// // SAFETY: nobody else knows the file.
-    /// let seen = unsafe { MappedBlockedFilter::open(&path)? };
-    /// assert!(seen.contains_hash(seen.source_hash("crab")));
-    /// # std::fs::remove_file(&path)?;
-    /// # Ok::<(), Box<dyn std::error::Error>>(())
-    /// ```
-    #[must_use]
-    pub fn contains_hash(&self, hash: u64) -> bool {
-        raw_blocked::contains_hash(self.lines(), self.num_hashes(), hash)
-    }
-
-    /// The number of hashes, which isn't 0.
-    ///
-    /// ```
-    /// # use fastbloom_c::{BlockedBloomFilter, MappedBlockedFilter};
-    /// # let name = format!("mapped_lines_num_hashes.{}.bloom", std::process::id());
-    /// # let path = std::env::temp_dir().join(name);
-    /// BlockedBloomFilter::with_num_bits(1024)?.hashes(4).save(&path)?;
-    /// // SAFETY: nobody else knows the file.
-    /// let seen = unsafe { MappedBlockedFilter::open(&path)? };
-    /// assert_eq!(seen.num_hashes(), 4);
-    /// # std::fs::remove_file(&path)?;
-    /// # Ok::<(), Box<dyn std::error::Error>>(())
-    /// ```
-    #[must_use]
-    pub fn num_hashes(&self) -> u32 {
-        self.0 .0.num_hashes
-    }
-
-    /// The number of bits, 512 for each line.
-    ///
-    /// ```
-    /// # use fastbloom_c::{BlockedBloomFilter, MappedBlockedFilter};
-    /// # let name = format!("mapped_lines_num_bits.{}.bloom", std::process::id());
-    /// # let path = std::env::temp_dir().join(name);
-    /// BlockedBloomFilter::with_num_bits(1000)?.hashes(4).save(&path)?;
-    /// // SAFETY: nobody else knows the file.
-    /// let seen = unsafe { MappedBlockedFilter::open(&path)? };
-    /// assert_eq!(seen.num_bits(), 1024);
-    /// # std::fs::remove_file(&path)?;
-    /// # Ok::<(), Box<dyn std::error::Error>>(())
-    /// ```
-    #[must_use]
-    pub fn num_bits(&self) -> usize {
-        64 * self.as_slice().len()
-    }
-
-    /// The key.
-    ///
-    /// ```
-    /// # use fastbloom_c::{BlockedBloomFilter, MappedBlockedFilter};
-    /// # let name = format!("mapped_lines_key.{}.bloom", std::process::id());
-    /// # let path = std::env::temp_dir().join(name);
-    /// BlockedBloomFilter::with_num_bits(1024)?.seed(&42).hashes(4).save(&path)?;
-    /// // SAFETY: nobody else knows the file.
-    /// let seen = unsafe { MappedBlockedFilter::open(&path)? };
-    /// assert_eq!(u128::from_be_bytes(*seen.key()), 42);
-    /// # std::fs::remove_file(&path)?;
-    /// # Ok::<(), Box<dyn std::error::Error>>(())
-    /// ```
-    #[must_use]
-    pub fn key(&self) -> &[u8; 16] {
-        &self.0 .0.key
-    }
-
-    /// The words, as they lie in the file, eight in a line.
-    ///
-    /// ```
-    /// # use fastbloom_c::{BlockedBloomFilter, MappedBlockedFilter};
-    /// # let name = format!("mapped_lines_as_slice.{}.bloom", std::process::id());
-    /// # let path = std::env::temp_dir().join(name);
-    /// BlockedBloomFilter::from_words(&[0, 1, 2, 3, 4, 5, 6, 7])?.hashes(1).save(&path)?;
-    /// // SAFETY: nobody else knows the file.
-    /// let seen = unsafe { MappedBlockedFilter::open(&path)? };
-    /// assert_eq!(seen.as_slice(), [0, 1, 2, 3, 4, 5, 6, 7]);
-    /// # std::fs::remove_file(&path)?;
-    /// # Ok::<(), Box<dyn std::error::Error>>(())
-    /// ```
-    #[must_use]
-    pub fn as_slice(&self) -> &[u64] {
-        // SAFETY: `open` mapped it to be read.
-        unsafe { self.0.as_slice() }
-    }
-
-    /// A filter with words of its own.
-    ///
-    /// ```
-    /// # use fastbloom_c::{BlockedBloomFilter, MappedBlockedFilter};
-    /// # let name = format!("mapped_lines_to_filter.{}.bloom", std::process::id());
-    /// # let path = std::env::temp_dir().join(name);
-    /// let saved = BlockedBloomFilter::with_num_bits(512)?.items(["crab"]);
-    /// saved.save(&path)?;
-    /// // SAFETY: nobody else knows the file.
-    /// let mapped = unsafe { MappedBlockedFilter::open(&path)? };
-    /// assert_eq!(mapped.to_filter()?, saved);
-    /// # std::fs::remove_file(&path)?;
-    /// # Ok::<(), Box<dyn std::error::Error>>(())
-    /// ```
-    ///
-    /// # Errors
-    /// [`Error::Memory`].
-    pub fn to_filter(&self) -> Result<BlockedBloomFilter, Error> {
-        let builder = BlockedBloomFilter::from_words(self.as_slice())?;
-        let seed = u128::from_be_bytes(*self.key());
-        Ok(builder.seed(&seed).hashes(self.num_hashes()))
-    }
-}
-
-impl fmt::Debug for MappedBlockedFilter {
-    fn fmt(&self, f: &mut fmt::Formatter<'_>) -> fmt::Result {
-        f.debug_struct("MappedBlockedFilter")
-            .field("num_bits", &self.num_bits())
-            .field("num_hashes", &self.num_hashes())
-            .finish_non_exhaustive()
-    }
-}
 
 /// The words of a file that is mapped to be shared, for an [`AtomicBloomFilter`] or an
 /// [`AtomicBlockedBloomFilter`].
@@ -596,139 +138,306 @@ impl fmt::Debug for MappedWords {
     }
 }
 
-impl AtomicBloomFilter<MappedWords> {
-    /// Maps a file without a seal, whose words all processes share that map it so: what one inserts
-    /// the others find, and the file has it.
-    ///
-    /// ```
-    /// # use fastbloom_c::{AtomicBloomFilter, BloomFilter};
-    /// # let path = std::env::temp_dir().join(format!("shared_map.{}.bloom", std::process::id()));
-    /// BloomFilter::with_num_bits(1024)?.hashes(4).save_unsealed(&path)?;
-    /// // SAFETY: nobody else knows the file.
-    /// let seen = unsafe { AtomicBloomFilter::map(&path)? };
-    /// assert!(!seen.insert("crab"));
-    /// assert!(BloomFilter::load(&path)?.contains("crab")); // the file has it
-    /// # std::fs::remove_file(&path)?;
-    /// # Ok::<(), Box<dyn std::error::Error>>(())
-    /// ```
-    ///
-    /// # Errors
-    /// As [`BloomFilter::read_file`]; [`Error::Sealed`]; and [`Error::Input`] where the file can't be
-    /// opened or mapped.
-    ///
-    /// # Safety
-    /// While it is mapped nobody makes the file shorter, and nobody writes into it but by such
-    /// filters, or by the library's calls on shared words. The disk has room for what is written
-    /// into a hole of the file, or wherever the file system copies what is written: otherwise the
-    /// process ends by a signal.
-    pub unsafe fn map(path: impl AsRef<Path>) -> Result<AtomicBloomFilter<MappedWords>, Error> {
-        // SAFETY: the caller keeps the same rule.
-        unsafe { AtomicBloomFilter::map_with_limits(path, &Limits::default()) }
-    }
+/// The calls of filters of a kind in mapped files: of one that is read, and of one that is shared.
+/// The examples use them as `Mapped` and `Shared`, and the plain filter that is saved at `path` as
+/// `Filter`.
+macro_rules! mapped_calls {
+    ($mapped:ident, $shared:ident, $filter:ident, $kind:expr, $calls:ident, $use:literal) => {
+        impl $mapped {
+            /// Maps the file at a path. A file with a seal is read once, whole, to compare it.
+            ///
+            /// ```
+            #[doc = $use]
+            /// # use fastbloom_c::Error;
+            /// Filter::with_num_bits(1024)?.hashes(4).save(&path)?;
+            /// // SAFETY: nobody else knows the file.
+            /// assert_eq!(unsafe { Mapped::open(&path)? }.num_bits(), 1024);
+            /// std::fs::write(&path, "a text, and no filter")?;
+            /// // SAFETY: as above.
+            /// let refused = unsafe { Mapped::open(&path) }.unwrap_err();
+            /// assert_eq!(refused, Error::NotAFilter);
+            /// # std::fs::remove_file(&path)?;
+            /// # Ok::<(), Box<dyn std::error::Error>>(())
+            /// ```
+            ///
+            /// # Errors
+            #[doc = concat!("As [`", stringify!($filter), "::read_file`];")]
+            /// and [`Error::Input`] where the file can't be opened or mapped.
+            ///
+            /// # Safety
+            /// While it is mapped nobody writes into the file or makes it shorter. Another file may
+            /// take its name meanwhile, as by
+            #[doc = concat!("[`", stringify!($filter), "::save`].")]
+            pub unsafe fn open(path: impl AsRef<Path>) -> Result<$mapped, Error> {
+                // SAFETY: the caller keeps the same rule.
+                unsafe { $mapped::open_with_limits(path, &Limits::default()) }
+            }
 
-    /// As [`map`](Self::map), of a file within these limits.
-    ///
-    /// ```
-    /// # use fastbloom_c::{AtomicBloomFilter, BloomFilter, Error, Limits};
-    /// # let name = format!("atomicbloomfilter_limits.{}.bloom", std::process::id());
-    /// # let path = std::env::temp_dir().join(name);
-    /// BloomFilter::with_num_bits(1024)?.hashes(65).save_unsealed(&path)?;
-    /// let mut limits = Limits { hashes: 65, words: 16 };
-    /// // SAFETY: nobody else knows the file.
-    /// assert!(unsafe { AtomicBloomFilter::map_with_limits(&path, &limits) }.is_ok());
-    /// limits.words = 15;
-    /// // SAFETY: as above.
-    /// let refused = unsafe { AtomicBloomFilter::map_with_limits(&path, &limits) };
-    /// assert_eq!(refused.err(), Some(Error::TooManyWords));
-    /// # std::fs::remove_file(&path)?;
-    /// # Ok::<(), Box<dyn std::error::Error>>(())
-    /// ```
-    ///
-    /// # Errors
-    /// As [`map`](Self::map).
-    ///
-    /// # Safety
-    /// As [`map`](Self::map).
-    pub unsafe fn map_with_limits(
-        path: impl AsRef<Path>,
-        limits: &Limits,
-    ) -> Result<AtomicBloomFilter<MappedWords>, Error> {
-        // SAFETY: the caller keeps the same rule.
-        let mapping =
-            unsafe { Mapping::open(Kind::Whole, path.as_ref(), sys::FASTBLOOM_MAP_SHARE, limits)? };
-        let (num_hashes, key) = (mapping.0.num_hashes, mapping.0.key);
-        let filter = AtomicBloomFilter::from_words(MappedWords(mapping), num_hashes)?;
-        Ok(filter.seed(&u128::from_be_bytes(key)))
-    }
+            /// As [`open`](Self::open), of a file within these limits.
+            ///
+            /// ```
+            #[doc = $use]
+            /// # use fastbloom_c::{Error, Limits};
+            /// Filter::with_num_bits(1024)?.hashes(65).save(&path)?;
+            /// let mut limits = Limits { hashes: 65, words: 16 };
+            /// // SAFETY: nobody else knows the file.
+            /// assert!(unsafe { Mapped::open_with_limits(&path, &limits) }.is_ok());
+            /// limits.words = 15;
+            /// // SAFETY: as above.
+            /// let refused = unsafe { Mapped::open_with_limits(&path, &limits) };
+            /// assert_eq!(refused.err(), Some(Error::TooManyWords));
+            /// # std::fs::remove_file(&path)?;
+            /// # Ok::<(), Box<dyn std::error::Error>>(())
+            /// ```
+            ///
+            /// # Errors
+            /// As [`open`](Self::open).
+            ///
+            /// # Safety
+            /// As [`open`](Self::open).
+            pub unsafe fn open_with_limits(
+                path: impl AsRef<Path>,
+                limits: &Limits,
+            ) -> Result<$mapped, Error> {
+                // SAFETY: the caller keeps the same rule.
+                unsafe { Mapping::open($kind, path.as_ref(), sys::FASTBLOOM_MAP_READ, limits) }
+                    .map($mapped)
+            }
+
+            /// Whether an item is contained. False: it was never inserted. True may be a false
+            /// positive.
+            ///
+            /// ```
+            #[doc = $use]
+            /// let mut saved = Filter::with_num_bits(512)?.hashes(4);
+            /// saved.insert("crab");
+            /// saved.save(&path)?;
+            /// // SAFETY: nobody else knows the file.
+            /// let seen = unsafe { Mapped::open(&path)? };
+            /// assert!(seen.contains("crab") && !seen.contains("lobster"));
+            /// # std::fs::remove_file(&path)?;
+            /// # Ok::<(), Box<dyn std::error::Error>>(())
+            /// ```
+            #[must_use]
+            pub fn contains(&self, val: &(impl AsRef<[u8]> + ?Sized)) -> bool {
+                $calls::contains(self.as_slice(), self.num_hashes(), self.key(), val.as_ref())
+            }
+
+            /// The hash of an item: SipHash-1-3 of exactly its bytes under the filter's key.
+            ///
+            /// ```
+            #[doc = $use]
+            /// let mut saved = Filter::with_num_bits(512)?.seed(&42).hashes(4);
+            /// saved.insert("crab");
+            /// saved.save(&path)?;
+            /// // SAFETY: nobody else knows the file.
+            /// let seen = unsafe { Mapped::open(&path)? };
+            /// assert_eq!(seen.source_hash("crab"), fastbloom_c::hash(seen.key(), "crab"));
+            /// # std::fs::remove_file(&path)?;
+            /// # Ok::<(), Box<dyn std::error::Error>>(())
+            /// ```
+            #[must_use]
+            pub fn source_hash(&self, val: &(impl AsRef<[u8]> + ?Sized)) -> u64 {
+                hash(self.key(), val)
+            }
+
+            /// As [`contains`](Self::contains), by the hash.
+            ///
+            /// ```
+            #[doc = $use]
+            /// let mut saved = Filter::with_num_bits(512)?.hashes(4);
+            /// saved.insert("crab");
+            /// saved.save(&path)?;
+            /// // SAFETY: nobody else knows the file.
+            /// let seen = unsafe { Mapped::open(&path)? };
+            /// assert!(seen.contains_hash(seen.source_hash("crab")));
+            /// # std::fs::remove_file(&path)?;
+            /// # Ok::<(), Box<dyn std::error::Error>>(())
+            /// ```
+            #[must_use]
+            pub fn contains_hash(&self, hash: u64) -> bool {
+                $calls::contains_hash(self.as_slice(), self.num_hashes(), hash)
+            }
+
+            /// The number of hashes, which isn't 0.
+            ///
+            /// ```
+            #[doc = $use]
+            /// Filter::with_num_bits(1024)?.hashes(4).save(&path)?;
+            /// // SAFETY: nobody else knows the file.
+            /// assert_eq!(unsafe { Mapped::open(&path)? }.num_hashes(), 4);
+            /// # std::fs::remove_file(&path)?;
+            /// # Ok::<(), Box<dyn std::error::Error>>(())
+            /// ```
+            #[must_use]
+            pub fn num_hashes(&self) -> u32 {
+                self.0 .0.num_hashes
+            }
+
+            /// The number of bits.
+            ///
+            /// ```
+            #[doc = $use]
+            /// Filter::with_num_bits(1000)?.hashes(4).save(&path)?;
+            /// // SAFETY: nobody else knows the file.
+            /// assert_eq!(unsafe { Mapped::open(&path)? }.num_bits(), 1024);
+            /// # std::fs::remove_file(&path)?;
+            /// # Ok::<(), Box<dyn std::error::Error>>(())
+            /// ```
+            #[must_use]
+            pub fn num_bits(&self) -> usize {
+                64 * self.as_slice().len()
+            }
+
+            /// The key.
+            ///
+            /// ```
+            #[doc = $use]
+            /// Filter::with_num_bits(1024)?.seed(&42).hashes(4).save(&path)?;
+            /// // SAFETY: nobody else knows the file.
+            /// let seen = unsafe { Mapped::open(&path)? };
+            /// assert_eq!(u128::from_be_bytes(*seen.key()), 42);
+            /// # std::fs::remove_file(&path)?;
+            /// # Ok::<(), Box<dyn std::error::Error>>(())
+            /// ```
+            #[must_use]
+            pub fn key(&self) -> &[u8; 16] {
+                &self.0 .0.key
+            }
+
+            /// The words, as they lie in the file; of a blocked filter eight in a line.
+            ///
+            /// ```
+            #[doc = $use]
+            /// let mut saved = Filter::with_num_bits(512)?.hashes(4);
+            /// saved.insert("crab");
+            /// saved.save(&path)?;
+            /// // SAFETY: nobody else knows the file.
+            /// assert_eq!(unsafe { Mapped::open(&path)? }.as_slice(), saved.as_slice());
+            /// # std::fs::remove_file(&path)?;
+            /// # Ok::<(), Box<dyn std::error::Error>>(())
+            /// ```
+            #[must_use]
+            pub fn as_slice(&self) -> &[u64] {
+                // SAFETY: `open` mapped it to be read.
+                unsafe { self.0.as_slice() }
+            }
+
+            /// A filter with words of its own.
+            ///
+            /// ```
+            #[doc = $use]
+            /// let mut saved = Filter::with_num_bits(512)?.hashes(4);
+            /// saved.insert("crab");
+            /// saved.save(&path)?;
+            /// // SAFETY: nobody else knows the file.
+            /// assert_eq!(unsafe { Mapped::open(&path)? }.to_filter()?, saved);
+            /// # std::fs::remove_file(&path)?;
+            /// # Ok::<(), Box<dyn std::error::Error>>(())
+            /// ```
+            ///
+            /// # Errors
+            /// [`Error::Memory`].
+            pub fn to_filter(&self) -> Result<$filter, Error> {
+                let words = self.as_slice();
+                let mut filter = $filter::empty(words.len(), self.num_hashes(), *self.key())?;
+                filter.words_mut().copy_from_slice(words);
+                Ok(filter)
+            }
+        }
+
+        impl fmt::Debug for $mapped {
+            fn fmt(&self, f: &mut fmt::Formatter<'_>) -> fmt::Result {
+                f.debug_struct(stringify!($mapped))
+                    .field("num_bits", &self.num_bits())
+                    .field("num_hashes", &self.num_hashes())
+                    .finish_non_exhaustive()
+            }
+        }
+
+        impl $shared<MappedWords> {
+            /// Maps a file without a seal, whose words all processes share that map it so: what one
+            /// inserts the others find, and the file has it.
+            ///
+            /// ```
+            #[doc = $use]
+            /// Filter::with_num_bits(1024)?.hashes(4).save_unsealed(&path)?;
+            /// // SAFETY: nobody else knows the file.
+            /// let seen = unsafe { Shared::map(&path)? };
+            /// assert!(!seen.insert("crab"));
+            /// assert!(Filter::load(&path)?.contains("crab")); // the file has it
+            /// # std::fs::remove_file(&path)?;
+            /// # Ok::<(), Box<dyn std::error::Error>>(())
+            /// ```
+            ///
+            /// # Errors
+            #[doc = concat!("As [`", stringify!($filter), "::read_file`];")]
+            /// [`Error::Sealed`]; and [`Error::Input`] where the file can't be opened or mapped.
+            ///
+            /// # Safety
+            /// While it is mapped nobody makes the file shorter, and nobody writes into it but by
+            /// such filters, or by the library's calls on shared words. The disk has room for what
+            /// is written into a hole of the file, or wherever the file system copies what is
+            /// written: otherwise the process ends by a signal.
+            pub unsafe fn map(path: impl AsRef<Path>) -> Result<$shared<MappedWords>, Error> {
+                // SAFETY: the caller keeps the same rule.
+                unsafe { $shared::map_with_limits(path, &Limits::default()) }
+            }
+
+            /// As [`map`](Self::map), of a file within these limits.
+            ///
+            /// ```
+            #[doc = $use]
+            /// # use fastbloom_c::{Error, Limits};
+            /// Filter::with_num_bits(1024)?.hashes(65).save_unsealed(&path)?;
+            /// let mut limits = Limits { hashes: 65, words: 16 };
+            /// // SAFETY: nobody else knows the file.
+            /// assert!(unsafe { Shared::map_with_limits(&path, &limits) }.is_ok());
+            /// limits.words = 15;
+            /// // SAFETY: as above.
+            /// let refused = unsafe { Shared::map_with_limits(&path, &limits) };
+            /// assert_eq!(refused.err(), Some(Error::TooManyWords));
+            /// # std::fs::remove_file(&path)?;
+            /// # Ok::<(), Box<dyn std::error::Error>>(())
+            /// ```
+            ///
+            /// # Errors
+            /// As [`map`](Self::map).
+            ///
+            /// # Safety
+            /// As [`map`](Self::map).
+            pub unsafe fn map_with_limits(
+                path: impl AsRef<Path>,
+                limits: &Limits,
+            ) -> Result<$shared<MappedWords>, Error> {
+                let mode = sys::FASTBLOOM_MAP_SHARE;
+                // SAFETY: the caller keeps the same rule.
+                let mapping = unsafe { Mapping::open($kind, path.as_ref(), mode, limits)? };
+                let (num_hashes, key) = (mapping.0.num_hashes, mapping.0.key);
+                let filter = $shared::from_words(MappedWords(mapping), num_hashes)?;
+                Ok(filter.seed(&u128::from_be_bytes(key)))
+            }
+        }
+    };
 }
 
-impl AtomicBlockedBloomFilter<MappedWords> {
-    /// Maps the file of a blocked filter without a seal, as [`AtomicBloomFilter::map`].
-    ///
-    /// ```
-    /// # use fastbloom_c::{AtomicBlockedBloomFilter, BlockedBloomFilter};
-    /// # let name = format!("shared_map_lines.{}.bloom", std::process::id());
-    /// # let path = std::env::temp_dir().join(name);
-    /// BlockedBloomFilter::with_num_bits(1024)?.hashes(4).save_unsealed(&path)?;
-    /// // SAFETY: nobody else knows the file.
-    /// let seen = unsafe { AtomicBlockedBloomFilter::map(&path)? };
-    /// assert!(!seen.insert("crab"));
-    /// assert!(BlockedBloomFilter::load(&path)?.contains("crab")); // the file has it
-    /// # std::fs::remove_file(&path)?;
-    /// # Ok::<(), Box<dyn std::error::Error>>(())
-    /// ```
-    ///
-    /// # Errors
-    /// As [`BlockedBloomFilter::read_file`]; [`Error::Sealed`]; and [`Error::Input`] where the file
-    /// can't be opened or mapped.
-    ///
-    /// # Safety
-    /// As [`AtomicBloomFilter::map`].
-    pub unsafe fn map(
-        path: impl AsRef<Path>,
-    ) -> Result<AtomicBlockedBloomFilter<MappedWords>, Error> {
-        // SAFETY: the caller keeps the same rule.
-        unsafe { AtomicBlockedBloomFilter::map_with_limits(path, &Limits::default()) }
-    }
-
-    /// As [`map`](Self::map), of a file within these limits.
-    ///
-    /// ```
-    /// # use fastbloom_c::{AtomicBlockedBloomFilter, BlockedBloomFilter, Error, Limits};
-    /// # let name = format!("atomicblockedbloomfilter_limits.{}.bloom", std::process::id());
-    /// # let path = std::env::temp_dir().join(name);
-    /// BlockedBloomFilter::with_num_bits(1024)?.hashes(65).save_unsealed(&path)?;
-    /// let mut limits = Limits { hashes: 65, words: 16 };
-    /// // SAFETY: nobody else knows the file.
-    /// assert!(unsafe { AtomicBlockedBloomFilter::map_with_limits(&path, &limits) }.is_ok());
-    /// limits.words = 15;
-    /// // SAFETY: as above.
-    /// let refused = unsafe { AtomicBlockedBloomFilter::map_with_limits(&path, &limits) };
-    /// assert_eq!(refused.err(), Some(Error::TooManyWords));
-    /// # std::fs::remove_file(&path)?;
-    /// # Ok::<(), Box<dyn std::error::Error>>(())
-    /// ```
-    ///
-    /// # Errors
-    /// As [`map`](Self::map).
-    ///
-    /// # Safety
-    /// As [`map`](Self::map).
-    pub unsafe fn map_with_limits(
-        path: impl AsRef<Path>,
-        limits: &Limits,
-    ) -> Result<AtomicBlockedBloomFilter<MappedWords>, Error> {
-        // SAFETY: the caller keeps the same rule.
-        let mapping = unsafe {
-            Mapping::open(
-                Kind::Blocked,
-                path.as_ref(),
-                sys::FASTBLOOM_MAP_SHARE,
-                limits,
-            )?
-        };
-        let (num_hashes, key) = (mapping.0.num_hashes, mapping.0.key);
-        let filter = AtomicBlockedBloomFilter::from_words(MappedWords(mapping), num_hashes)?;
-        Ok(filter.seed(&u128::from_be_bytes(key)))
-    }
-}
+mapped_calls!(
+    MappedFilter,
+    AtomicBloomFilter,
+    BloomFilter,
+    Kind::Whole,
+    whole,
+    r#"# use fastbloom_c::{AtomicBloomFilter as Shared, BloomFilter as Filter};
+# use fastbloom_c::MappedFilter as Mapped;
+# let path = std::env::temp_dir().join(format!("mapped.{}.bloom", std::process::id()));"#
+);
+mapped_calls!(
+    MappedBlockedFilter,
+    AtomicBlockedBloomFilter,
+    BlockedBloomFilter,
+    Kind::Blocked,
+    blocked,
+    r#"# use fastbloom_c::{AtomicBlockedBloomFilter as Shared, BlockedBloomFilter as Filter};
+# use fastbloom_c::MappedBlockedFilter as Mapped;
+# let path = std::env::temp_dir().join(format!("mapped.{}.bloom", std::process::id()));"#
+);

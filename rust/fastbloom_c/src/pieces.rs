@@ -1,8 +1,7 @@
 //! Hashes of items that come in pieces.
 
-use crate::{raw, AtomicBlockedBloomFilter, AtomicBloomFilter, BlockedBloomFilter, BloomFilter};
+use crate::raw;
 use std::fmt;
-use std::sync::atomic::AtomicU64;
 
 /// The hash of an item that comes in pieces: SipHash-1-3 of all pieces, one behind the other.
 ///
@@ -60,70 +59,5 @@ impl Hasher {
 impl fmt::Debug for Hasher {
     fn fmt(&self, f: &mut fmt::Formatter<'_>) -> fmt::Result {
         f.debug_struct("Hasher").finish_non_exhaustive()
-    }
-}
-
-impl BloomFilter {
-    /// A hasher under the key of this filter, for the hash of an item that comes in pieces.
-    ///
-    /// ```
-    /// # use fastbloom_c::BloomFilter;
-    /// let seen = BloomFilter::with_num_bits(1024)?.items(["crab"]);
-    /// let hash = seen.begin_hash().update("cr").update("ab").finish();
-    /// assert!(seen.contains_hash(hash));
-    /// # Ok::<(), fastbloom_c::Error>(())
-    /// ```
-    #[must_use]
-    pub fn begin_hash(&self) -> Hasher {
-        Hasher::new(&self.key)
-    }
-}
-
-impl BlockedBloomFilter {
-    /// As [`BloomFilter::begin_hash`].
-    ///
-    /// ```
-    /// # use fastbloom_c::BlockedBloomFilter;
-    /// let seen = BlockedBloomFilter::with_num_bits(1024)?.items(["crab"]);
-    /// let hash = seen.begin_hash().update("cr").update("ab").finish();
-    /// assert!(seen.contains_hash(hash));
-    /// # Ok::<(), fastbloom_c::Error>(())
-    /// ```
-    #[must_use]
-    pub fn begin_hash(&self) -> Hasher {
-        Hasher::new(self.key())
-    }
-}
-
-impl<W: AsRef<[AtomicU64]>> AtomicBloomFilter<W> {
-    /// As [`BloomFilter::begin_hash`].
-    ///
-    /// ```
-    /// # use fastbloom_c::{AtomicBloomFilter, BloomFilter};
-    /// let seen = AtomicBloomFilter::from(BloomFilter::with_num_bits(1024)?.items(["crab"]));
-    /// let hash = seen.begin_hash().update("cr").update("ab").finish();
-    /// assert!(seen.contains_hash(hash));
-    /// # Ok::<(), fastbloom_c::Error>(())
-    /// ```
-    #[must_use]
-    pub fn begin_hash(&self) -> Hasher {
-        Hasher::new(self.key())
-    }
-}
-
-impl<W: AsRef<[AtomicU64]>> AtomicBlockedBloomFilter<W> {
-    /// As [`BloomFilter::begin_hash`].
-    ///
-    /// ```
-    /// # use fastbloom_c::{AtomicBlockedBloomFilter, BlockedBloomFilter};
-    /// let lines = BlockedBloomFilter::with_num_bits(1024)?.items(["crab"]);
-    /// let seen = AtomicBlockedBloomFilter::from(lines);
-    /// let hash = seen.begin_hash().update("cr").update("ab").finish();
-    /// assert!(seen.contains_hash(hash));
-    /// # Ok::<(), fastbloom_c::Error>(())
-    /// ```
-    #[must_use]
-    pub fn begin_hash(&self) -> Hasher {
-        Hasher::new(self.key())
     }
 }

@@ -1,10 +1,28 @@
 //! The calls that plain filters of both kinds have in common.
 
-/// The calls of a filter whose words, or lines, are in this field, by the calls of this module. The
-/// examples use it as `Filter`.
+/// The calls of a filter, by the calls of this module of `raw_calls`. The last text says how its
+/// words lie. The examples use the filter as `Filter`.
 macro_rules! plain_calls {
-    ($filter:ident, $words:ident, $raw:ident, $use:literal) => {
+    ($filter:ident, $calls:ident, $use:literal, $words:literal) => {
         impl $filter {
+            // The filter of so many words that are zero.
+            pub(crate) fn empty(
+                num_words: usize,
+                num_hashes: u32,
+                key: $crate::raw::Key,
+            ) -> Result<$filter, $crate::Error> {
+                Ok($filter {
+                    words: $crate::raw_units::zeros(num_words)?,
+                    num_hashes,
+                    key,
+                })
+            }
+
+            // The words, to be written.
+            pub(crate) fn words_mut(&mut self) -> &mut [u64] {
+                $crate::raw_units::words_mut(&mut self.words)
+            }
+
             /// Inserts an item, and returns whether it was contained before, which may be a false
             /// positive.
             ///
@@ -16,7 +34,8 @@ macro_rules! plain_calls {
             /// # Ok::<(), fastbloom_c::Error>(())
             /// ```
             pub fn insert(&mut self, val: &(impl AsRef<[u8]> + ?Sized)) -> bool {
-                $raw::insert(&mut self.$words, self.num_hashes, &self.key, val.as_ref())
+                let words = $crate::raw_units::words_mut(&mut self.words);
+                $calls::insert(words, self.num_hashes, &self.key, val.as_ref())
             }
 
             /// Whether an item is contained. False: it was never inserted. True may be a false
@@ -30,7 +49,7 @@ macro_rules! plain_calls {
             /// ```
             #[must_use]
             pub fn contains(&self, val: &(impl AsRef<[u8]> + ?Sized)) -> bool {
-                $raw::contains(&self.$words, self.num_hashes, &self.key, val.as_ref())
+                $calls::contains(self.as_slice(), self.num_hashes, &self.key, val.as_ref())
             }
 
             /// The hash of an item: SipHash-1-3 of exactly its bytes under the filter's key.
@@ -47,6 +66,20 @@ macro_rules! plain_calls {
                 $crate::hash(&self.key, val)
             }
 
+            /// A hasher under the key of this filter, for the hash of an item that comes in pieces.
+            ///
+            /// ```
+            #[doc = $use]
+            /// let seen = Filter::with_num_bits(1024)?.items(["crab"]);
+            /// let hash = seen.begin_hash().update("cr").update("ab").finish();
+            /// assert!(seen.contains_hash(hash));
+            /// # Ok::<(), fastbloom_c::Error>(())
+            /// ```
+            #[must_use]
+            pub fn begin_hash(&self) -> $crate::Hasher {
+                $crate::Hasher::new(&self.key)
+            }
+
             /// As [`insert`](Self::insert), by the hash.
             ///
             /// ```
@@ -57,7 +90,8 @@ macro_rules! plain_calls {
             /// # Ok::<(), fastbloom_c::Error>(())
             /// ```
             pub fn insert_hash(&mut self, hash: u64) -> bool {
-                $raw::insert_hash(&mut self.$words, self.num_hashes, hash)
+                let words = $crate::raw_units::words_mut(&mut self.words);
+                $calls::insert_hash(words, self.num_hashes, hash)
             }
 
             /// As [`contains`](Self::contains), by the hash.
@@ -70,7 +104,7 @@ macro_rules! plain_calls {
             /// ```
             #[must_use]
             pub fn contains_hash(&self, hash: u64) -> bool {
-                $raw::contains_hash(&self.$words, self.num_hashes, hash)
+                $calls::contains_hash(self.as_slice(), self.num_hashes, hash)
             }
 
             /// Inserts each hash, by one call of the library.
@@ -83,7 +117,8 @@ macro_rules! plain_calls {
             /// # Ok::<(), fastbloom_c::Error>(())
             /// ```
             pub fn insert_hashes(&mut self, hashes: &[u64]) {
-                $raw::insert_hashes(&mut self.$words, self.num_hashes, hashes);
+                let words = $crate::raw_units::words_mut(&mut self.words);
+                $calls::insert_hashes(words, self.num_hashes, hashes);
             }
 
             /// Inserts each hash, one after the other, and tells for each whether it was new. A
@@ -97,19 +132,10 @@ macro_rules! plain_calls {
             /// # Ok::<(), fastbloom_c::Error>(())
             /// ```
             pub fn insert_hashes_tell_new(&mut self, hashes: &[u64]) -> Vec<bool> {
-                let mut told = Vec::with_capacity(hashes.len());
-                for part in hashes.chunks($crate::many::AT_ONCE) {
-                    let mut bits = $crate::many::Bits::default();
-                    let done = $raw::insert_hashes_tell_new(
-                        &mut self.$words,
-                        self.num_hashes,
-                        part,
-                        &mut bits,
-                    );
-                    assert!(done, "there are bits for all");
-                    $crate::many::push_bits(&mut told, &bits, part.len());
-                }
-                told
+                let words = $crate::raw_units::words_mut(&mut self.words);
+                $crate::many::tell(hashes, |hashes, bits| {
+                    $calls::insert_hashes_tell_new(words, self.num_hashes, hashes, bits)
+                })
             }
 
             /// Tells for each hash whether it is contained. True may be a false positive.
@@ -123,15 +149,9 @@ macro_rules! plain_calls {
             /// ```
             #[must_use]
             pub fn contains_hashes(&self, hashes: &[u64]) -> Vec<bool> {
-                let mut told = Vec::with_capacity(hashes.len());
-                for part in hashes.chunks($crate::many::AT_ONCE) {
-                    let mut bits = $crate::many::Bits::default();
-                    let done =
-                        $raw::contains_hashes(&self.$words, self.num_hashes, part, &mut bits);
-                    assert!(done, "there are bits for all");
-                    $crate::many::push_bits(&mut told, &bits, part.len());
-                }
-                told
+                $crate::many::tell(hashes, |hashes, bits| {
+                    $calls::contains_hashes(self.as_slice(), self.num_hashes, hashes, bits)
+                })
             }
 
             /// Inserts each item of an iterator, many by one call of the library. Where the
@@ -159,7 +179,7 @@ macro_rules! plain_calls {
             /// # Ok::<(), fastbloom_c::Error>(())
             /// ```
             pub fn clear(&mut self) {
-                $raw::clear(&mut self.$words);
+                $crate::raw::clear(self.words_mut());
             }
 
             /// Whether [`union`](Self::union) and [`intersect`](Self::intersect) take the other
@@ -175,7 +195,7 @@ macro_rules! plain_calls {
             /// ```
             #[must_use]
             pub fn same_shape(&self, other: &$filter) -> bool {
-                self.$words.len() == other.$words.len()
+                self.words.len() == other.words.len()
                     && self.num_hashes == other.num_hashes
                     && self.key == other.key
             }
@@ -195,11 +215,9 @@ macro_rules! plain_calls {
             /// [`Error::OtherShape`](crate::Error::OtherShape) where the filters differ in words,
             /// hashes or keys.
             pub fn union(&mut self, other: &$filter) -> Result<(), $crate::Error> {
-                if self.same_shape(other) && $raw::union(&mut self.$words, &other.$words) {
-                    Ok(())
-                } else {
-                    Err($crate::Error::OtherShape)
-                }
+                let fits = self.same_shape(other);
+                let done = fits && $crate::raw::union(self.words_mut(), other.as_slice());
+                done.then_some(()).ok_or($crate::Error::OtherShape)
             }
 
             /// Keeps only what may be in both filters.
@@ -217,11 +235,9 @@ macro_rules! plain_calls {
             /// [`Error::OtherShape`](crate::Error::OtherShape) where the filters differ in words,
             /// hashes or keys.
             pub fn intersect(&mut self, other: &$filter) -> Result<(), $crate::Error> {
-                if self.same_shape(other) && $raw::intersect(&mut self.$words, &other.$words) {
-                    Ok(())
-                } else {
-                    Err($crate::Error::OtherShape)
-                }
+                let fits = self.same_shape(other);
+                let done = fits && $crate::raw::intersect(self.words_mut(), other.as_slice());
+                done.then_some(()).ok_or($crate::Error::OtherShape)
             }
 
             /// The number of positions that an item has.
@@ -259,6 +275,21 @@ macro_rules! plain_calls {
             #[must_use]
             pub fn key(&self) -> &[u8; 16] {
                 &self.key
+            }
+
+            /// The words.
+            #[doc = $words]
+            ///
+            /// ```
+            #[doc = $use]
+            /// let mut seen = Filter::with_num_bits(512)?.hashes(1);
+            /// seen.insert_hash(0);
+            /// assert_eq!(seen.as_slice(), [1, 0, 0, 0, 0, 0, 0, 0]);
+            /// # Ok::<(), fastbloom_c::Error>(())
+            /// ```
+            #[must_use]
+            pub fn as_slice(&self) -> &[u64] {
+                $crate::raw_units::words(&self.words)
             }
 
             /// The words, by value.

@@ -1,5 +1,5 @@
-//! The calls of the library over slices. This module, `raw_blocked`, `raw_shared` and `mapped` alone
-//! have unsafe blocks.
+//! The calls of the library over slices. Unsafe blocks are here, in the other modules whose names
+//! begin with `raw`, and in `mapped` alone.
 //!
 //! The library asks for pointers that aren't null and are aligned, to initialized memory of the
 //! length that is given. A reference and a slice of Rust are that, also where there are no
@@ -9,7 +9,6 @@
 
 use crate::Error;
 use fastbloom_c_sys as sys;
-use std::alloc::{alloc_zeroed, Layout};
 use std::arch::is_x86_feature_detected;
 use std::ffi::CString;
 use std::io;
@@ -53,29 +52,39 @@ pub fn check_processor() {
     );
 }
 
-/// This many words of zero.
-pub fn zeros(num_words: usize) -> Result<Vec<u64>, Error> {
-    let layout = Layout::array::<u64>(num_words).map_err(|_| Error::Memory)?;
-    if layout.size() == 0 {
-        return Ok(Vec::new());
-    }
-    // SAFETY: the size isn't zero.
-    let words = unsafe { alloc_zeroed(layout) }.cast::<u64>();
-    if words.is_null() {
-        return Err(Error::Memory);
-    }
-    // SAFETY: the allocator of every `Vec` gave this memory, for an array of this many words, and
-    // they are zeros.
-    Ok(unsafe { Vec::from_raw_parts(words, num_words, num_words) })
+/// The call of a kind, of one for each kind.
+macro_rules! of_kind {
+    ($kind:expr, $whole:ident, $blocked:ident) => {
+        match $kind {
+            Kind::Whole => sys::$whole,
+            Kind::Blocked => sys::$blocked,
+        }
+    };
+}
+
+pub(crate) use of_kind;
+
+/// The two numbers that a call writes, unless it refuses.
+fn numbers<A: Default, B: Default>(
+    call: impl FnOnce(&mut A, &mut B) -> u8,
+) -> Result<(A, B), Error> {
+    let (mut one, mut other) = (A::default(), B::default());
+    Error::check(call(&mut one, &mut other))?;
+    Ok((one, other))
+}
+
+/// The two bounds that a call writes. None: it returned false.
+pub fn told<T: Default>(call: impl FnOnce(&mut T, &mut T) -> bool) -> Option<(T, T)> {
+    let (mut low, mut high) = (T::default(), T::default());
+    call(&mut low, &mut high).then_some((low, high))
 }
 
 /// The numbers of words and of hashes for this many items at the rate `num / den`.
-pub fn plan(num: u64, den: u64, items: usize) -> Result<(usize, u32), Error> {
+pub fn plan(kind: Kind, (num, den): (u64, u64), items: usize) -> Result<(usize, u32), Error> {
     check_processor();
-    let (mut num_words, mut num_hashes) = (0, 0);
-    // SAFETY: the pointers are to two locals of the types that the call writes.
-    Error::check(unsafe { sys::fastbloom_plan(num, den, items, &mut num_words, &mut num_hashes) })?;
-    Ok((num_words, num_hashes))
+    let call = of_kind!(kind, fastbloom_plan, fastbloom_blocked_plan);
+    // SAFETY: the pointers are to two numbers that the call may write.
+    numbers(|num_words, num_hashes| unsafe { call(num, den, items, num_words, num_hashes) })
 }
 
 /// The number of bits, or 0 where there are too many words.
@@ -87,12 +96,9 @@ pub fn num_bits(num_words: usize) -> usize {
 
 /// Two bounds of the rate to expect, in units of 2^-63.
 pub fn expected_rate(num_words: usize, num_hashes: u32, items: usize) -> Result<(u64, u64), Error> {
-    let (mut low, mut high) = (0, 0);
-    // SAFETY: the pointers are to two locals of the type that the call writes.
-    Error::check(unsafe {
-        sys::fastbloom_expected_rate(num_words, num_hashes, items, &mut low, &mut high)
-    })?;
-    Ok((low, high))
+    let call = sys::fastbloom_expected_rate;
+    // SAFETY: the pointers are to two numbers that the call may write.
+    numbers(|low, high| unsafe { call(num_words, num_hashes, items, low, high) })
 }
 
 /// Two bounds of the mean rate, in units of 2^-63.
@@ -102,37 +108,61 @@ pub fn rate_bounds(
     num_hashes: u32,
     items: usize,
 ) -> Result<(u64, u64), Error> {
-    let (mut low, mut high) = (0, 0);
-    let call = match kind {
-        Kind::Whole => sys::fastbloom_rate_bounds,
-        Kind::Blocked => sys::fastbloom_blocked_rate_bounds,
-    };
-    // SAFETY: the pointers are to two locals of the type that the call writes.
-    Error::check(unsafe { call(num_words, num_hashes, items, &mut low, &mut high) })?;
-    Ok((low, high))
+    let call = of_kind!(kind, fastbloom_rate_bounds, fastbloom_blocked_rate_bounds);
+    // SAFETY: as above.
+    numbers(|low, high| unsafe { call(num_words, num_hashes, items, low, high) })
 }
 
 /// How many items a filter takes at the rate `num / den`.
 pub fn capacity(kind: Kind, num_words: usize, num_hashes: u32, (num, den): (u64, u64)) -> usize {
-    let call = match kind {
-        Kind::Whole => sys::fastbloom_capacity,
-        Kind::Blocked => sys::fastbloom_blocked_capacity,
-    };
+    let call = of_kind!(kind, fastbloom_capacity, fastbloom_blocked_capacity);
     // SAFETY: the call takes no pointer.
     unsafe { call(num_words, num_hashes, num, den) }
 }
 
 /// Two bounds of the rate of a filter as it is, in units of 2^-63. None: there are no words.
 pub fn rate_now(kind: Kind, words: &[u64], num_hashes: u32) -> Option<(u64, u64)> {
-    let (mut low, mut high) = (0, 0);
-    let call = match kind {
-        Kind::Whole => sys::fastbloom_rate_now,
-        Kind::Blocked => sys::fastbloom_blocked_rate_now,
-    };
-    // SAFETY: the words are a slice of this length, which the call reads. The other pointers are to
-    // two locals of the type that it writes.
-    let told = unsafe { call(words.as_ptr(), words.len(), num_hashes, &mut low, &mut high) };
-    told.then_some((low, high))
+    let call = of_kind!(kind, fastbloom_rate_now, fastbloom_blocked_rate_now);
+    let (at, count) = (words.as_ptr(), words.len());
+    // SAFETY: the words are a slice of this length. The call may write both numbers.
+    told(|low, high| unsafe { call(at, count, num_hashes, low, high) })
+}
+
+/// Two bounds of the number of items. The greatest number stands for no upper bound. None: there
+/// are no words.
+pub fn estimate(kind: Kind, words: &[u64], num_hashes: u32) -> Option<(usize, usize)> {
+    let call = of_kind!(kind, fastbloom_estimate, fastbloom_blocked_estimate);
+    let (at, count) = (words.as_ptr(), words.len());
+    // SAFETY: as above.
+    told(|low, high| unsafe { call(at, count, num_hashes, low, high) })
+}
+
+/// Calls that tell two bounds of two lists of words. None: the numbers of words differ.
+macro_rules! bounds_of_two {
+    ($($(#[$comment:meta])+ $name:ident: $bound:ty = $whole:ident or $blocked:ident;)+) => {$(
+        $(#[$comment])+
+        pub fn $name(
+            kind: Kind,
+            words: &[u64],
+            other: &[u64],
+            num_hashes: u32,
+        ) -> Option<($bound, $bound)> {
+            let call = of_kind!(kind, $whole, $blocked);
+            let (at, count) = (words.as_ptr(), words.len());
+            let (other, others) = (other.as_ptr(), other.len());
+            // SAFETY: both are slices of their lengths. The call may write both numbers.
+            told(|low, high| unsafe { call(at, count, other, others, num_hashes, low, high) })
+        }
+    )+};
+}
+
+bounds_of_two! {
+    /// Two bounds of the number of items in the union.
+    estimate_union: usize = fastbloom_estimate_union or fastbloom_blocked_estimate_union;
+    /// Two bounds of the number of items in common.
+    estimate_common: usize = fastbloom_estimate_common or fastbloom_blocked_estimate_common;
+    /// Two bounds of the part in common, in units of 2^-63.
+    jaccard: u64 = fastbloom_jaccard or fastbloom_blocked_jaccard;
 }
 
 /// SipHash-1-3 of exactly these bytes.
@@ -162,106 +192,6 @@ pub fn update_hash(hashing: &mut Hashing, piece: &[u8]) {
 pub fn finish_hash(hashing: &Hashing) -> u64 {
     // SAFETY: the call reads the struct.
     unsafe { sys::fastbloom_hasher_finish(hashing) }
-}
-
-/// Inserts a hash, and returns whether it was contained before.
-pub fn insert_hash(words: &mut [u64], num_hashes: u32, hash: u64) -> bool {
-    // SAFETY: the words are a slice of this length, which is borrowed for writing.
-    unsafe { sys::fastbloom_insert_hash(words.as_mut_ptr(), words.len(), num_hashes, hash) }
-}
-
-/// Inserts many hashes.
-pub fn insert_hashes(words: &mut [u64], num_hashes: u32, hashes: &[u64]) -> bool {
-    // SAFETY: both are slices of their lengths. The words are borrowed for writing, so that the
-    // hashes lie elsewhere.
-    unsafe {
-        sys::fastbloom_insert_hashes(
-            words.as_mut_ptr(),
-            words.len(),
-            num_hashes,
-            hashes.as_ptr(),
-            hashes.len(),
-        )
-    }
-}
-
-/// Whether a hash is contained.
-pub fn contains_hash(words: &[u64], num_hashes: u32, hash: u64) -> bool {
-    // SAFETY: the words are a slice of this length, which the call reads.
-    unsafe { sys::fastbloom_contains_hash(words.as_ptr(), words.len(), num_hashes, hash) }
-}
-
-/// Whether many hashes are contained, each with a bit. False: there are fewer bits than hashes.
-#[must_use]
-pub fn contains_hashes(words: &[u64], num_hashes: u32, hashes: &[u64], found: &mut [u64]) -> bool {
-    // SAFETY: all are slices of their lengths. The last is borrowed for writing, so that the others
-    // lie elsewhere.
-    unsafe {
-        sys::fastbloom_contains_hashes(
-            words.as_ptr(),
-            words.len(),
-            num_hashes,
-            hashes.as_ptr(),
-            hashes.len(),
-            found.as_mut_ptr(),
-            found.len(),
-        )
-    }
-}
-
-/// Inserts many hashes, and tells by a bit which were new. False: there are fewer bits than hashes.
-#[must_use]
-pub fn insert_hashes_tell_new(
-    words: &mut [u64],
-    num_hashes: u32,
-    hashes: &[u64],
-    fresh: &mut [u64],
-) -> bool {
-    // SAFETY: all are slices of their lengths. The words and the bits are borrowed for writing, so
-    // that no two of the three overlap.
-    unsafe {
-        sys::fastbloom_insert_hashes_tell_new(
-            words.as_mut_ptr(),
-            words.len(),
-            num_hashes,
-            hashes.as_ptr(),
-            hashes.len(),
-            fresh.as_mut_ptr(),
-            fresh.len(),
-        )
-    }
-}
-
-/// Inserts the hash of the bytes, and returns whether it was contained before.
-pub fn insert(words: &mut [u64], num_hashes: u32, key: &Key, bytes: &[u8]) -> bool {
-    // SAFETY: the key has sixteen bytes, and the others are slices of their lengths. The words are
-    // borrowed for writing, so that the others lie elsewhere.
-    unsafe {
-        sys::fastbloom_insert(
-            words.as_mut_ptr(),
-            words.len(),
-            num_hashes,
-            key.as_ptr(),
-            bytes.as_ptr(),
-            bytes.len(),
-        )
-    }
-}
-
-/// Whether the hash of the bytes is contained.
-pub fn contains(words: &[u64], num_hashes: u32, key: &Key, bytes: &[u8]) -> bool {
-    // SAFETY: the key has sixteen bytes, and the others are slices of their lengths, which the call
-    // reads.
-    unsafe {
-        sys::fastbloom_contains(
-            words.as_ptr(),
-            words.len(),
-            num_hashes,
-            key.as_ptr(),
-            bytes.as_ptr(),
-            bytes.len(),
-        )
-    }
 }
 
 /// Removes every item.
@@ -300,99 +230,9 @@ pub fn count_ones(words: &[u64]) -> usize {
     unsafe { sys::fastbloom_count_ones(words.as_ptr(), words.len()) }
 }
 
-/// Two bounds of the number of items. The greatest number stands for no upper bound. None: there
-/// are no words.
-pub fn estimate(kind: Kind, words: &[u64], num_hashes: u32) -> Option<(usize, usize)> {
-    let (mut low, mut high) = (0, 0);
-    let call = match kind {
-        Kind::Whole => sys::fastbloom_estimate,
-        Kind::Blocked => sys::fastbloom_blocked_estimate,
-    };
-    // SAFETY: the words are a slice of this length, which the call reads. The other pointers are to
-    // two locals of the type that it writes.
-    let told = unsafe { call(words.as_ptr(), words.len(), num_hashes, &mut low, &mut high) };
-    told.then_some((low, high))
-}
-
-/// A call that hands out two bounds of two lists of words.
-type OfTwo<T> =
-    unsafe extern "C" fn(*const u64, usize, *const u64, usize, u32, *mut T, *mut T) -> bool;
-
-/// The bounds that a call hands out. None: the numbers of words differ.
-///
-/// # Safety
-/// It reads the words, and writes two numbers.
-unsafe fn of_two<T: Default>(
-    call: OfTwo<T>,
-    words: &[u64],
-    other: &[u64],
-    num_hashes: u32,
-) -> Option<(T, T)> {
-    let (mut low, mut high) = (T::default(), T::default());
-    let (at, count, other_at, other_count) =
-        (words.as_ptr(), words.len(), other.as_ptr(), other.len());
-    // SAFETY: both are slices of their lengths, which the call reads, as the caller says. The other
-    // pointers are to two locals of the type that it writes.
-    let told = unsafe {
-        call(
-            at,
-            count,
-            other_at,
-            other_count,
-            num_hashes,
-            &mut low,
-            &mut high,
-        )
-    };
-    told.then_some((low, high))
-}
-
-/// Two bounds of the number of items in the union. None: the numbers of words differ.
-pub fn estimate_union(
-    kind: Kind,
-    words: &[u64],
-    other: &[u64],
-    num_hashes: u32,
-) -> Option<(usize, usize)> {
-    let call = match kind {
-        Kind::Whole => sys::fastbloom_estimate_union,
-        Kind::Blocked => sys::fastbloom_blocked_estimate_union,
-    };
-    // SAFETY: the library's calls are so.
-    unsafe { of_two(call, words, other, num_hashes) }
-}
-
-/// Two bounds of the number of items in common. None: the numbers of words differ.
-pub fn estimate_common(
-    kind: Kind,
-    words: &[u64],
-    other: &[u64],
-    num_hashes: u32,
-) -> Option<(usize, usize)> {
-    let call = match kind {
-        Kind::Whole => sys::fastbloom_estimate_common,
-        Kind::Blocked => sys::fastbloom_blocked_estimate_common,
-    };
-    // SAFETY: as above.
-    unsafe { of_two(call, words, other, num_hashes) }
-}
-
-/// Two bounds of the part in common, in units of 2^-63. None: the numbers of words differ.
-pub fn jaccard(kind: Kind, words: &[u64], other: &[u64], num_hashes: u32) -> Option<(u64, u64)> {
-    let call = match kind {
-        Kind::Whole => sys::fastbloom_jaccard,
-        Kind::Blocked => sys::fastbloom_blocked_jaccard,
-    };
-    // SAFETY: as above.
-    unsafe { of_two(call, words, other, num_hashes) }
-}
-
 /// The seal of the file of these words.
 pub fn seal(kind: Kind, words: &[u64], num_hashes: u32, key: &Key) -> u64 {
-    let call = match kind {
-        Kind::Whole => sys::fastbloom_seal,
-        Kind::Blocked => sys::fastbloom_blocked_seal,
-    };
+    let call = of_kind!(kind, fastbloom_seal, fastbloom_blocked_seal);
     // SAFETY: the key has sixteen bytes, and the words are a slice of this length.
     unsafe { call(words.as_ptr(), words.len(), num_hashes, key.as_ptr()) }
 }
@@ -400,10 +240,7 @@ pub fn seal(kind: Kind, words: &[u64], num_hashes: u32, key: &Key) -> u64 {
 /// The head of a file.
 pub fn write_head(kind: Kind, head: &Head) -> Result<HeadBytes, Error> {
     let mut bytes = [0; 64];
-    let call = match kind {
-        Kind::Whole => sys::fastbloom_head_write,
-        Kind::Blocked => sys::fastbloom_blocked_head_write,
-    };
+    let call = of_kind!(kind, fastbloom_head_write, fastbloom_blocked_head_write);
     // SAFETY: the key has sixteen bytes, and the local that the call writes has 64.
     Error::check(unsafe {
         call(
@@ -421,10 +258,7 @@ pub fn write_head(kind: Kind, head: &Head) -> Result<HeadBytes, Error> {
 pub fn read_head(kind: Kind, bytes: &HeadBytes) -> Result<Head, Error> {
     check_processor();
     let mut head = Head::default();
-    let call = match kind {
-        Kind::Whole => sys::fastbloom_head_read,
-        Kind::Blocked => sys::fastbloom_blocked_head_read,
-    };
+    let call = of_kind!(kind, fastbloom_head_read, fastbloom_blocked_head_read);
     // SAFETY: the head has 64 bytes. The call writes four fields of a local, of the types that it
     // wants, which lie apart.
     Error::check(unsafe {
@@ -458,10 +292,7 @@ pub fn save(
         num_hashes,
         key: *key,
     };
-    let call = match kind {
-        Kind::Whole => sys::fastbloom_save,
-        Kind::Blocked => sys::fastbloom_blocked_save,
-    };
+    let call = of_kind!(kind, fastbloom_save, fastbloom_blocked_save);
     // SAFETY: the path ends in a zero byte, and the filter's words are a slice of this length, which
     // the call reads.
     match unsafe { call(path.as_ptr(), &filter, sealed) } {

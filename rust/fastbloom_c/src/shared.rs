@@ -1,8 +1,9 @@
 //! The filter that threads share, and change with no lock.
 
 use crate::estimates::some;
+use crate::raw_calls::shared;
 use crate::shared_calls::shared_calls;
-use crate::{raw, raw_shared, BloomFilter, Bracket, Error};
+use crate::{raw, raw_units, BloomFilter, Bracket, Error};
 use std::sync::atomic::AtomicU64;
 
 /// A set of texts and bytes that threads share: each call takes `&self`.
@@ -36,7 +37,9 @@ pub struct AtomicBloomFilter<W = Box<[AtomicU64]>> {
 shared_calls!(
     AtomicBloomFilter,
     BloomFilter,
-    raw_shared,
+    shared,
+    raw_units::share,
+    raw_units::unshare,
     "# use fastbloom_c::{AtomicBloomFilter as Shared, BloomFilter as Plain};"
 );
 
@@ -72,18 +75,6 @@ impl<W: AsRef<[AtomicU64]>> AtomicBloomFilter<W> {
         })
     }
 
-    // The plain filter whose words a call writes.
-    fn plain(&self, call: fn(&[AtomicU64], &mut [u64]) -> bool) -> Result<BloomFilter, Error> {
-        let mut words = raw::zeros(self.as_slice().len())?;
-        let done = call(self.as_slice(), &mut words);
-        assert!(done, "there is room for all");
-        Ok(BloomFilter {
-            words,
-            num_hashes: self.num_hashes,
-            key: self.key,
-        })
-    }
-
     /// Two bounds of the classical formula of the rate of false positives, once this many items are
     /// in the filter, as [`BloomFilter::expected_false_pos`].
     ///
@@ -99,42 +90,5 @@ impl<W: AsRef<[AtomicU64]>> AtomicBloomFilter<W> {
     pub fn expected_false_pos(&self, num_items: usize) -> Bracket {
         let told = raw::expected_rate(self.as_slice().len(), self.num_hashes, num_items);
         Bracket::of_filter(some(told.ok()))
-    }
-}
-
-/// A plain filter that becomes shared, with its words where they lie.
-///
-/// ```
-/// # use fastbloom_c::{AtomicBloomFilter, BloomFilter};
-/// let plain = BloomFilter::with_num_bits(1024)?.items(["crab"]);
-/// assert!(AtomicBloomFilter::from(plain).contains("crab"));
-/// # Ok::<(), fastbloom_c::Error>(())
-/// ```
-impl From<BloomFilter> for AtomicBloomFilter {
-    fn from(plain: BloomFilter) -> Self {
-        AtomicBloomFilter {
-            words: raw_shared::share(plain.words),
-            num_hashes: plain.num_hashes,
-            key: plain.key,
-        }
-    }
-}
-
-/// A shared filter that becomes plain, with its words where they lie.
-///
-/// ```
-/// # use fastbloom_c::{AtomicBloomFilter, BloomFilter};
-/// let seen = AtomicBloomFilter::from(BloomFilter::with_num_bits(1024)?.hashes(4));
-/// seen.insert("crab");
-/// assert!(BloomFilter::from(seen).contains("crab"));
-/// # Ok::<(), fastbloom_c::Error>(())
-/// ```
-impl From<AtomicBloomFilter> for BloomFilter {
-    fn from(shared: AtomicBloomFilter) -> Self {
-        BloomFilter {
-            words: raw_shared::unshare(shared.words),
-            num_hashes: shared.num_hashes,
-            key: shared.key,
-        }
     }
 }

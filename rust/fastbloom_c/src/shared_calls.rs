@@ -1,9 +1,10 @@
 //! The calls that filters which threads share have in common, of both kinds.
 
-/// The calls of a filter, which is made of a plain one, by the calls of this module. The examples
-/// use them as `Shared` and `Plain`.
+/// The calls of a filter, which is made of a plain one, by the calls of this module of `raw_calls`.
+/// Two functions make the words shared ones, and plain ones again. The examples use the filters as
+/// `Shared` and `Plain`.
 macro_rules! shared_calls {
-    ($shared:ident, $plain:ident, $calls:ident, $use:literal) => {
+    ($shared:ident, $plain:ident, $calls:ident, $share:expr, $unshare:expr, $use:literal) => {
         impl<W: AsRef<[AtomicU64]>> $shared<W> {
             /// Sets the key: the sixteen big-endian bytes of the seed. Items that were inserted
             /// under another one are no longer found.
@@ -66,6 +67,20 @@ macro_rules! shared_calls {
                 $crate::hash(&self.key, val)
             }
 
+            /// A hasher under the key of this filter, for the hash of an item that comes in pieces.
+            ///
+            /// ```
+            #[doc = $use]
+            /// let seen = Shared::from(Plain::with_num_bits(1024)?.items(["crab"]));
+            /// let hash = seen.begin_hash().update("cr").update("ab").finish();
+            /// assert!(seen.contains_hash(hash));
+            /// # Ok::<(), fastbloom_c::Error>(())
+            /// ```
+            #[must_use]
+            pub fn begin_hash(&self) -> $crate::Hasher {
+                $crate::Hasher::new(&self.key)
+            }
+
             /// As [`insert`](Self::insert), by the hash.
             ///
             /// ```
@@ -116,7 +131,9 @@ macro_rules! shared_calls {
             /// # Ok::<(), fastbloom_c::Error>(())
             /// ```
             pub fn insert_hashes_tell_new(&self, hashes: &[u64]) -> Vec<bool> {
-                self.tell(hashes, $calls::insert_hashes_tell_new)
+                $crate::many::tell(hashes, |hashes, bits| {
+                    $calls::insert_hashes_tell_new(self.as_slice(), self.num_hashes, hashes, bits)
+                })
             }
 
             /// Looks each hash up.
@@ -130,23 +147,9 @@ macro_rules! shared_calls {
             /// ```
             #[must_use]
             pub fn contains_hashes(&self, hashes: &[u64]) -> Vec<bool> {
-                self.tell(hashes, $calls::contains_hashes)
-            }
-
-            // Makes a call on many hashes that tells of each by a bit.
-            fn tell(
-                &self,
-                hashes: &[u64],
-                call: fn(&[AtomicU64], u32, &[u64], &mut [u64]) -> bool,
-            ) -> Vec<bool> {
-                let mut told = Vec::with_capacity(hashes.len());
-                for part in hashes.chunks($crate::many::AT_ONCE) {
-                    let mut bits = $crate::many::Bits::default();
-                    let done = call(self.as_slice(), self.num_hashes, part, &mut bits);
-                    assert!(done, "there are bits for all");
-                    $crate::many::push_bits(&mut told, &bits, part.len());
-                }
-                told
+                $crate::many::tell(hashes, |hashes, bits| {
+                    $calls::contains_hashes(self.as_slice(), self.num_hashes, hashes, bits)
+                })
             }
 
             /// Inserts each item of an iterator, many by one call of the library. Where the
@@ -215,13 +218,9 @@ macro_rules! shared_calls {
                 &self,
                 other: &$shared<V>,
             ) -> Result<(), $crate::Error> {
-                if self.same_shape(other)
-                    && $crate::raw_shared::union(self.as_slice(), other.as_slice())
-                {
-                    Ok(())
-                } else {
-                    Err($crate::Error::OtherShape)
-                }
+                let fits = self.same_shape(other);
+                let done = fits && $crate::raw_shared::union(self.as_slice(), other.as_slice());
+                done.then_some(()).ok_or($crate::Error::OtherShape)
             }
 
             /// Keeps only what may be in both filters, one word after the other.
@@ -243,13 +242,20 @@ macro_rules! shared_calls {
                 &self,
                 other: &$shared<V>,
             ) -> Result<(), $crate::Error> {
-                if self.same_shape(other)
-                    && $crate::raw_shared::intersect(self.as_slice(), other.as_slice())
-                {
-                    Ok(())
-                } else {
-                    Err($crate::Error::OtherShape)
-                }
+                let fits = self.same_shape(other);
+                let done = fits && $crate::raw_shared::intersect(self.as_slice(), other.as_slice());
+                done.then_some(()).ok_or($crate::Error::OtherShape)
+            }
+
+            // The plain filter whose words a call writes.
+            fn plain(
+                &self,
+                call: fn(&[AtomicU64], &mut [u64]) -> bool,
+            ) -> Result<$plain, $crate::Error> {
+                let mut plain = $plain::empty(self.as_slice().len(), self.num_hashes, self.key)?;
+                let done = call(self.as_slice(), plain.words_mut());
+                assert!(done, "there is room for all");
+                Ok(plain)
             }
 
             /// Takes the items out into a plain filter. Each word is read and cleared by one
@@ -368,6 +374,43 @@ macro_rules! shared_calls {
             #[must_use]
             pub fn as_slice(&self) -> &[AtomicU64] {
                 self.words.as_ref()
+            }
+        }
+
+        /// A plain filter that becomes shared, with its words where they lie.
+        ///
+        /// ```
+        #[doc = $use]
+        /// let plain = Plain::with_num_bits(1024)?.items(["crab"]);
+        /// assert!(Shared::from(plain).contains("crab"));
+        /// # Ok::<(), fastbloom_c::Error>(())
+        /// ```
+        impl From<$plain> for $shared {
+            fn from(plain: $plain) -> Self {
+                $shared {
+                    words: $share(plain.words),
+                    num_hashes: plain.num_hashes,
+                    key: plain.key,
+                }
+            }
+        }
+
+        /// A shared filter that becomes plain, with its words where they lie.
+        ///
+        /// ```
+        #[doc = $use]
+        /// let seen = Shared::from(Plain::with_num_bits(1024)?.hashes(4));
+        /// seen.insert("crab");
+        /// assert!(Plain::from(seen).contains("crab"));
+        /// # Ok::<(), fastbloom_c::Error>(())
+        /// ```
+        impl From<$shared> for $plain {
+            fn from(shared: $shared) -> Self {
+                $plain {
+                    words: $unshare(shared.words),
+                    num_hashes: shared.num_hashes,
+                    key: shared.key,
+                }
             }
         }
 
