@@ -24,5 +24,8 @@ for name in summaries fastbloom-summaries
     complete -c $name -n $ask -l absent -d 'Writes the keys that are surely not in'
     complete -c $name -n "$build ask" -s z -l zero -d 'A zero byte ends each key'
     complete -c $name -n "$build unite" -l json -d 'Writes the filter as JSON'
+    complete -c $name -n $build -l key -x -d 'The key of the hash'
+    complete -c $name -n "$build unite ask" -s o -l output -r -F -d 'Writes this file'
+    complete -c $name -n '__fish_seen_subcommand_from info' -l json -d 'Prints one line of JSON'
     complete -c $name -n "$ask unite" -l hashes-up-to -x -d 'Refuses a filter with more hashes'
 end

@@ -2,11 +2,10 @@
 
 mod rows;
 
-use crate::rates::rate_of;
-use clap::builder::ValueParser;
 use clap::error::ErrorKind;
-use clap::{Arg, ArgAction, ArgGroup, ArgMatches, Command, Error};
-use rows::{COMMANDS, CommandRow, Kind, Row};
+use clap::{ArgGroup, ArgMatches, Command, Error};
+use program_parts::{VERSION, arguments_of, key_of, rate_of};
+use rows::{COMMANDS, CommandRow};
 use std::alloc::{AllocError, Global};
 
 // The commands' arguments by their ids.
@@ -36,75 +35,9 @@ pub const ZERO: &str = "zero";
 
 pub const ABSENT: &str = "absent";
 
-// The version of the library whose filters these are.
-const VERSION: &str = "0.17.0";
+pub const KEY: &str = "key";
 
-fn flag(alloc: Global, id: &'static str, help: &'static str) -> Arg<'static> {
-    Arg::new(alloc, id)
-        .long(id)
-        .action(ArgAction::SetTrue)
-        .help(help)
-}
-
-fn option(
-    alloc: Global,
-    id: &'static str,
-    help: &'static str,
-    name: &'static str,
-    default: &'static [&'static str],
-    parser: ValueParser<'static>,
-) -> Arg<'static> {
-    Arg::new(alloc, id)
-        .long(id)
-        .value_name(name)
-        .default_values(default)
-        .value_parser(parser)
-        .help(help)
-}
-
-fn words(
-    alloc: Global,
-    id: &'static str,
-    help: &'static str,
-    action: ArgAction,
-    least: usize,
-    most: usize,
-) -> Arg<'static> {
-    Arg::new(alloc, id)
-        .required(least > 0)
-        .action(action)
-        .num_args(least..=most)
-        .help(help)
-}
-
-fn argument(alloc: Global, id: &'static str, kind: Kind, help: &'static str) -> Arg<'static> {
-    match kind {
-        Kind::Flag => flag(alloc, id, help),
-        Kind::Letter(letter) => flag(alloc, id, help).short(letter),
-        Kind::Option(name, default, parser) => option(alloc, id, help, name, default, parser),
-        Kind::Words(action, least, most) => words(alloc, id, help, action, least, most),
-    }
-}
-
-// The argument of this row.
-fn argument_of(alloc: Global, row: &Row) -> Result<Arg<'static>, AllocError> {
-    let (id, kind, help, needed, excluded) = *row;
-    argument(alloc, id, kind, help)
-        .requires_all(needed)?
-        .conflicts_with_all(excluded)
-}
-
-// The arguments of these rows.
-//
-// Room comes first: a push that hands back a value that it has no room for takes long to prove.
-fn arguments_of<'a>(alloc: Global, rows: &[Row]) -> Result<Vec<Arg<'a>>, AllocError> {
-    let mut arguments: Vec<Arg<'a>> = Vec::new(alloc);
-    'arguments: for row in rows {
-        arguments.reserve(1)?;
-        arguments.push_reserved(argument_of(alloc, row)?);
-    }
-    Ok(arguments)
-}
+pub const OUTPUT: &str = "output";
 
 // The arguments of which one has to be given, if there are any.
 fn choice<'a>(alloc: Global, ids: &'static [&'static str]) -> Result<ArgGroup<'a>, AllocError> {
@@ -156,24 +89,28 @@ fn command<'a>(alloc: Global) -> Result<Command<'a>, AllocError> {
     program(alloc).subcommands(commands)
 }
 
-// Whether a command's words have a rate that is none.
-fn has_bad_rate(matches: &ArgMatches) -> bool {
-    match matches.subcommand() {
-        Some((_, words)) => match words.get_str(RATE) {
-            Some(text) => rate_of(text).is_none(),
-            None => false,
-        },
-        None => false,
+// What a value of a command's words should be that is none, if one is.
+fn value_error(matches: &ArgMatches) -> Option<&'static str> {
+    let (_name, words) = matches.subcommand()?;
+    if let Some(text) = words.get_str(RATE) {
+        if rate_of(text).is_none() {
+            return Some("the rate is a fraction between 0 and 1, as 1/1000");
+        }
     }
+    if let Some(text) = words.get_str(KEY) {
+        if key_of(text).is_none() {
+            return Some("the key is 32 hexadecimal digits");
+        }
+    }
+    None
 }
 
-// What is wrong with a rate, unless memory for it is refused.
-fn rate_error(alloc: Global) -> Result<Error, AllocError> {
-    let told = "the rate is a fraction between 0 and 1, as 1/1000";
-    command(alloc)?.error(ErrorKind::ValueValidation, told)
+// The error of this text, unless memory for it is refused.
+fn error_of(alloc: Global, text: &str) -> Result<Error, AllocError> {
+    command(alloc)?.error(ErrorKind::ValueValidation, text)
 }
 
-// The words as they match the program's, whatever the rate is.
+// The words as they match the program's, whatever the rate and the key are.
 fn matched<'a>(alloc: Global, words: &'a [String]) -> Result<ArgMatches<'a>, Error> {
     command(alloc)?.try_get_matches_from(words)
 }
@@ -184,9 +121,8 @@ fn matched<'a>(alloc: Global, words: &'a [String]) -> Result<ArgMatches<'a>, Err
 /// The text for the user: what is wrong with the words, or the help.
 pub fn arguments<'a>(alloc: Global, words: &'a [String]) -> Result<ArgMatches<'a>, Error> {
     let matches = matched(alloc, words)?;
-    if has_bad_rate(&matches) {
-        Err(rate_error(alloc)?)
-    } else {
-        Ok(matches)
+    match value_error(&matches) {
+        Some(text) => Err(error_of(alloc, text)?),
+        None => Ok(matches),
     }
 }

@@ -1,20 +1,16 @@
 //! Files by their names, and standard input.
 ghost use Rattle.summaries_engine.specs.Stops.{IsUnreadable};
 
+use crate::progress::Counted;
 use either::{Either, Left, Right};
 use std::alloc::Global;
+use std::cell::Cell;
 use std::fs;
-use std::os::unix::fs::MetadataExt;
 use std::rt::Files;
 use summaries_engine::{Inputs, Stop, unread};
 
 /// The name of standard input, as it is reported.
 pub const STANDARD: &str = "standard input";
-
-// Where Linux keeps what the standard streams are.
-const STANDARD_INPUT: &str = "/proc/self/fd/0";
-
-const STANDARD_OUTPUT: &str = "/proc/self/fd/1";
 
 /// How an input is called. A file that has the name of standard input is called by its folder.
 pub fn called(name: &str) -> &str {
@@ -39,33 +35,21 @@ pub fn called_inputs<'a>(alloc: Global, words: &[&'a str]) -> Result<Vec<&'a str
     Ok(names)
 }
 
-// The device of a file, and its number there. What isn't a regular file has none.
-fn file_at<R: Files>(rt: &R, path: &str) -> Option<(u64, u64)> {
-    let found = fs::metadata(rt, path).ok()?;
-    if found.is_file() {
-        Some((found.dev(), found.ino()))
-    } else {
-        None
-    }
-}
-
-/// Whether the input of this word is the regular file that standard output is written to.
-pub fn is_output<R: Files>(rt: &R, word: &str) -> bool {
-    let path = if word == "-" { STANDARD_INPUT } else { word };
-    match file_at(rt, STANDARD_OUTPUT) {
-        Some(output) => file_at(rt, path) == Some(output),
-        None => false,
-    }
-}
-
-/// The files of a system, with standard input among them, by the names of `called_inputs`.
+/// The files of a system, with standard input among them, by the names of `called_inputs`. A
+/// terminal is told how many keys were read.
 #[derive(Drop)]
 pub struct KeyFiles<'a, R> {
     pub rt: &'a R,
+    /// How many keys were read so far.
+    pub keys: &'a Cell<u64>,
+    /// The byte that ends a key.
+    pub end: u8,
+    /// Whether it is told how many were read.
+    pub is_on: bool,
 }
 
-impl<'a, R: Files + Input> Inputs for KeyFiles<'a, R> {
-    type Input = Either<R::Reader, R::File>;
+impl<'a, R: Files + Input + Eprint> Inputs for KeyFiles<'a, R> {
+    type Input = Counted<'a, R, Either<R::Reader, R::File>>;
 
     // What files hold is known to no contract.
     ghost has = { λ files name read. Unit {0} };
@@ -74,12 +58,20 @@ impl<'a, R: Files + Input> Inputs for KeyFiles<'a, R> {
     ghost fails = { λ files name stop. IsUnreadable name stop };
 
     fn open(&self, name: &str) -> Result<Self::Input, Stop> {
-        if name == STANDARD {
-            return Ok(Left(self.rt.reader()));
-        }
-        match fs::open(self.rt, name) {
-            Ok(file) => Ok(Right(file)),
-            Err(error) => Err(unread(name, error)),
-        }
+        let input = if name == STANDARD {
+            Left(self.rt.reader())
+        } else {
+            match fs::open(self.rt, name) {
+                Ok(file) => Right(file),
+                Err(error) => return Err(unread(name, error)),
+            }
+        };
+        Ok(Counted {
+            rt: self.rt,
+            input,
+            keys: self.keys,
+            end: self.end,
+            is_on: self.is_on,
+        })
     }
 }

@@ -1,20 +1,22 @@
 //! Filters of the keys of shards: builds them, unites them, asks them, and tells what they are.
 //!
-//! - `command_line`, `rates`: the arguments, by `clap`, and rates among them.
+//! - `command_line`: the arguments, by `clap`.
 //! - `tasks`: what each command does, by `summaries_engine`.
 //! - `key_files`, `form`: files of keys, and filters in files.
+//! - `progress`: inputs whose keys are counted, as a terminal is told.
 //! - `telling`: what is reported, and the statuses.
 #![tactic(auto)]
 
 mod command_line;
 mod form;
 mod key_files;
-mod rates;
+mod progress;
 mod tasks;
 mod telling;
 
 use clap::{ArgMatches, Error};
 use command_line::arguments;
+use std::io::IsTerminal;
 use std::process::ExitCode;
 use std::rt::Files;
 use std::thread::Threads;
@@ -42,17 +44,22 @@ fn print<R: Print + Eprint>(rt: &R, error: &Error) -> u8 {
 fn run_matched<R: Files + Input + Print + Eprint + AllocGlobal + Threads>(
     rt: &R,
     matches: &ArgMatches,
+    is_on: bool,
 ) -> u8 {
     match tasks::name_of_output(rt, matches) {
         Some(name) => tell_output(rt, name),
-        None => status_of(rt, tasks::run(rt, matches)),
+        None => status_of(rt, tasks::run(rt, matches, is_on)),
     }
 }
 
-// What the words ask for is done; the status.
-fn run<R: Files + Input + Print + Eprint + AllocGlobal + Threads>(rt: &R, words: &[String]) -> u8 {
+// What the words ask for is done; the status. A terminal is told how far the run is.
+fn run<R: Files + Input + Print + Eprint + AllocGlobal + Threads>(
+    rt: &R,
+    words: &[String],
+    is_on: bool,
+) -> u8 {
     match arguments(rt.alloc(), words) {
-        Ok(matches) => run_matched(rt, &matches),
+        Ok(matches) => run_matched(rt, &matches, is_on),
         Err(error) => print(rt, &error),
     }
 }
@@ -64,7 +71,10 @@ fn words_of(rt: &HostRuntime) -> std::io::Result<Vec<String>> {
 
 fn main(rt: HostRuntime) -> ExitCode {
     match words_of(&rt) {
-        Ok(words) => ExitCode::from(run(&rt, words.as_slice())),
+        Ok(words) => {
+            let is_on = rt.stderr().is_terminal();
+            ExitCode::from(run(&rt, words.as_slice(), is_on))
+        }
         Err(error) => {
             if error.kind() == std::io::ErrorKind::InvalidData {
                 tell(&rt, "an argument isn't UTF-8");

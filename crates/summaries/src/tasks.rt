@@ -2,32 +2,53 @@
 mod asks;
 mod builds;
 
-use crate::command_line::{FILTER, JSON, MOST_HASHES, OTHER};
+use crate::command_line::{FILTER, JSON, MOST_HASHES, OTHER, OUTPUT, ZERO};
 use crate::form::{Disk, load_named};
-use crate::key_files::{STANDARD, called, called_inputs};
+use crate::key_files::{KeyFiles, STANDARD, called, called_inputs};
 use asks::{run_ask, word_of_output};
 use builds::run_build;
 use clap::ArgMatches;
+use program_parts::{close, open_output};
+use std::alloc::{AllocError, Global};
+use std::cell::Cell;
+use std::io::Write;
 use std::rt::Files;
 use std::thread::Threads;
 use summaries_engine::{
-    AnyFilter, Stop, blocked_facts_of, compare_named, facts_of, no_json, put, put_file, twice,
-    unite_named, unsaid, written,
+    AnyFilter, Form, Stop, blocked_facts_of, blocked_script_of, compare_named, facts_of, no_json,
+    put, put_file, script_of, twice, unite_named, unsaid, unwritten, written,
 };
 
+// The inputs of keys that the words tell.
+fn keys_of<'a, R>(
+    rt: &'a R,
+    matches: &ArgMatches,
+    is_on: bool,
+    keys: &'a Cell<u64>,
+) -> KeyFiles<'a, R> {
+    let end = if matches.get_flag(ZERO) { 0 } else { 10 };
+    KeyFiles {
+        rt,
+        keys,
+        end,
+        is_on,
+    }
+}
+
 // Writes a filter in the form that the words ask for.
-fn write<R: Print + AllocGlobal>(
-    rt: &R,
+fn write<W: Write>(
+    alloc: Global,
     matches: &ArgMatches,
     filter: &AnyFilter,
+    output: &mut W,
 ) -> Result<(), Stop> {
     if matches.get_flag(JSON) {
         return match filter {
-            AnyFilter::Classic(filter) => put(rt.alloc(), filter, &mut std::io::writer(rt)),
+            AnyFilter::Classic(filter) => put(alloc, filter, output),
             AnyFilter::Blocked(_) => Err(no_json()),
         };
     }
-    match put_file(filter, &mut std::io::writer(rt)) {
+    match put_file(filter, output) {
         Ok(()) => Ok(()),
         Err(error) => Err(Stop::Output(error)),
     }
@@ -59,28 +80,45 @@ fn check_once(names: &[&str]) -> Result<(), Stop> {
 }
 
 // Unites the filters of these files, and writes what comes of it.
-fn unite_files<R: Files + Input + Print + AllocGlobal>(
+fn unite_files<R: Files + Input + AllocGlobal, W: Write>(
     rt: &R,
     matches: &ArgMatches,
     names: &[&str],
+    output: &mut W,
 ) -> Result<(), Stop> {
     check_once(names)?;
     let disk = disk_of(rt, matches)?;
     match unite_named(&disk, names) {
-        Ok(filter) => write(rt, matches, &filter),
+        Ok(filter) => write(rt.alloc(), matches, &filter, output),
         Err(stop) => Err(stop),
     }
 }
 
-fn run_unite<R: Files + Input + Print + AllocGlobal>(
+fn run_unite<R: Files + Input + AllocGlobal, W: Write>(
     rt: &R,
     matches: &ArgMatches,
+    output: &mut W,
 ) -> Result<(), Stop> {
     let Some(words) = matches.get_strs(FILTER) else {
         return Err(unsaid(FILTER));
     };
     let names = called_inputs(rt.alloc(), words)?;
-    unite_files(rt, matches, names.as_slice())
+    unite_files(rt, matches, names.as_slice(), output)
+}
+
+// What is reported about a filter, in lines or, for scripts, as JSON.
+fn facts_in(
+    alloc: Global,
+    filter: &AnyFilter,
+    form: Form,
+    is_json: bool,
+) -> Result<String, AllocError> {
+    match filter {
+        AnyFilter::Classic(filter) if is_json => script_of(alloc, filter, form),
+        AnyFilter::Classic(filter) => facts_of(alloc, filter, form),
+        AnyFilter::Blocked(filter) if is_json => blocked_script_of(alloc, filter, form),
+        AnyFilter::Blocked(filter) => blocked_facts_of(alloc, filter, form),
+    }
 }
 
 // Prints what is reported about filters.
@@ -96,11 +134,7 @@ fn run_info<R: Files + Input + Print + AllocGlobal>(
         return Err(unsaid(FILTER));
     };
     let (filter, form) = load_named(rt, called(name), u32::MAX)?;
-    let facts = match &filter {
-        AnyFilter::Classic(filter) => facts_of(rt.alloc(), filter, form),
-        AnyFilter::Blocked(filter) => blocked_facts_of(rt.alloc(), filter, form),
-    };
-    match facts {
+    match facts_in(rt.alloc(), &filter, form, matches.get_flag(JSON)) {
         Ok(facts) => print_facts(rt, facts.as_str()),
         Err(_) => Err(Stop::Memory),
     }
@@ -140,20 +174,58 @@ pub fn name_of_output<'a, R: Files>(rt: &R, matches: &ArgMatches<'a>) -> Option<
     Some(called(word))
 }
 
-/// Does what the words ask for.
-pub fn run<R: Files + Input + Print + AllocGlobal + Threads>(
+// Carries a task out that may write much, where its output is open.
+fn write_task<R: Files + Input + Eprint + AllocGlobal + Threads, W: Write + Drop>(
+    rt: &R,
+    name: &str,
+    matches: &ArgMatches,
+    is_on: bool,
+    output: &mut W,
+) -> Result<(), Stop> {
+    match name {
+        "build" => run_build(rt, matches, is_on, output),
+        "unite" => run_unite(rt, matches, output),
+        "ask" => run_ask(rt, matches, is_on, output),
+        _ => Err(unsaid("command")),
+    }
+}
+
+// Opens the output that the words ask for, and carries a task out. An output that is a file takes
+// its place if that ended well.
+fn run_with_output<R: Files + Input + Print + Eprint + AllocGlobal + Threads>(
+    rt: &R,
+    name: &str,
+    matches: &ArgMatches,
+    is_on: bool,
+) -> Result<(), Stop> {
+    let file = matches.get_str(OUTPUT);
+    match open_output(rt, file) {
+        Ok(output) => {
+            let mut output = output;
+            let ended = write_task(rt, name, matches, is_on, &mut output.writer);
+            let closed = close(rt, output, ended.is_ok());
+            ended?;
+            match closed {
+                Ok(()) => Ok(()),
+                Err(error) => Err(unwritten(file.unwrap_or("-"), error)),
+            }
+        }
+        Err(error) => Err(unwritten(file.unwrap_or("-"), error)),
+    }
+}
+
+/// Does what the words ask for. A terminal is told how far the run is.
+pub fn run<R: Files + Input + Print + Eprint + AllocGlobal + Threads>(
     rt: &R,
     matches: &ArgMatches,
+    is_on: bool,
 ) -> Result<(), Stop> {
     let Some((name, matches)) = matches.subcommand() else {
         return Err(unsaid("command"));
     };
     match name {
-        "build" => run_build(rt, matches),
-        "unite" => run_unite(rt, matches),
-        "ask" => run_ask(rt, matches),
         "info" => run_info(rt, matches),
         "compare" => run_compare(rt, matches),
-        _ => Err(unsaid("command")),
+        _ => run_with_output(rt, name, matches, is_on),
     }
 }

@@ -24,7 +24,7 @@ both-short key other one two =
     All-from_recursion (λ key. length key ≤ 65536) (key ∷ other ∷ []) (one, (two, tt))
 
 -- the hashes of "a" and "b", of which the last has no end
-hashes-both : HashesAll 10 (Some (97 ∷ 10 ∷ 98 ∷ [])) (Some []) []
+hashes-both : HashesAll (0, 0) 10 (Some (97 ∷ 10 ∷ 98 ∷ [])) (Some []) []
     (0x4074_48d2_b89b_1813 ∷ 0x8b22_cf26_02fb_60ce ∷ [])
 unfolding lines_by
 hashes-both = record {
@@ -37,13 +37,13 @@ hashes-both = record {
 
 -- none of them is too long
 hashes-long : (read left : Option (List ℕ)) (hashes : List ℕ)
-    (did : HashesAll 10 read left [] hashes)
+    (did : HashesAll (0, 0) 10 read left [] hashes)
     (key : List ℕ) → did.keys ≡ key ∷ [] → length key ≡ 65537 → ⊥
 hashes-long read left hashes did key is long =
     omega (arith, long, subst (AreShort 65536) is did.short 0 [] (omega arith))
 
 -- no key may be left out
-hashes-less : HashesAll 10 (Some (97 ∷ 10 ∷ 98 ∷ [])) (Some []) []
+hashes-less : HashesAll (0, 0) 10 (Some (97 ∷ 10 ∷ 98 ∷ [])) (Some []) []
     (0x4074_48d2_b89b_1813 ∷ []) → ⊥
 unfolding lines_by
 hashes-less did = none did.keys did.whole.are_lines did.hashed
@@ -55,7 +55,8 @@ hashes-less did = none did.keys did.whole.are_lines did.hashed
         omega (arith, wrong)
 
 -- nothing may be left to read when all keys were hashed
-hashes-left : HashesAll 10 (Some (97 ∷ [])) (Some (98 ∷ [])) [] (0x4074_48d2_b89b_1813 ∷ []) → ⊥
+hashes-left : HashesAll (0, 0) 10 (Some (97 ∷ [])) (Some (98 ∷ [])) []
+    (0x4074_48d2_b89b_1813 ∷ []) → ⊥
 hashes-left did = cc (did.whole.none_left)
 
 -- whether the filter of "a" contains each
@@ -109,7 +110,7 @@ absent-found f is did = none did.keys did.whole.are_lines did.text
         omega (arith, wrong)
 
 -- where a zero byte ends keys, byte 10 is one of the key's
-hashes-zero : HashesAll 0 (Some (97 ∷ 0 ∷ 98 ∷ [])) (Some []) (5 ∷ [])
+hashes-zero : HashesAll (0, 0) 0 (Some (97 ∷ 0 ∷ 98 ∷ [])) (Some []) (5 ∷ [])
     (5 ∷ 0x4074_48d2_b89b_1813 ∷ 0x8b22_cf26_02fb_60ce ∷ [])
 unfolding lines_by
 hashes-zero = record {
@@ -121,7 +122,7 @@ hashes-zero = record {
 }
 
 -- the hashes that were there may not be lost
-hashes-lost : HashesAll 10 (Some []) (Some []) (5 ∷ []) [] → ⊥
+hashes-lost : HashesAll (0, 0) 10 (Some []) (Some []) (5 ∷ []) [] → ⊥
 hashes-lost did = cc (did.hashed)
 
 -- both keys were asked for
@@ -177,7 +178,7 @@ answers-left : (f : DefaultFilter) (from to : Option (List ℕ))
 answers-left f from to did = cc (did.whole.none_left)
 
 -- the hash of another key isn't that of "a"
-hashes-other : HashesAll 10 (Some (97 ∷ [])) (Some []) [] (0x8b22_cf26_02fb_60ce ∷ []) → ⊥
+hashes-other : HashesAll (0, 0) 10 (Some (97 ∷ [])) (Some []) [] (0x8b22_cf26_02fb_60ce ∷ []) → ⊥
 unfolding lines_by
 hashes-other did = wrong (sym (hashed ∙ ap (map (sip 0 0)) (sym did.whole.are_lines)))
   where

@@ -2,7 +2,7 @@
 -- nearly do. In one line and with two hashes key "a" (byte 97) has the positions 201 and 220, by
 -- `dev/blocked-model`, so that 268435968 is its fourth word. As a Bloom filter of as many bits it
 -- has others, of which 128 is the first.
-use Rattle.std.proofs.Common.{◌≡◌, ◌≤◌, ℕ, ◌*◌, Bool, true, false, ◌||◌, List, [], ◌∷◌, ◌++◌, length, replicate, codes, None, Some, refl, sym, subst, ap, ◌∙◌, lit<, lit≤, arith, inl, inr}
+use Rattle.std.proofs.Common.{◌≡◌, ◌≤◌, ℕ, ◌*◌, ◌^◌, Bool, true, false, ◌||◌, List, [], ◌∷◌, ◌++◌, length, replicate, codes, None, Some, refl, sym, subst, ap, ◌∙◌, lit<, lit≤, arith, inl, inr}
 use Rattle.std.proofs.lemmas.List.Elements.{All-head}
 use Rattle.std.specs.Fmt.{char_count, digits, padded_integral}
 use Rattle.anyhow.specs.declared.error.Error.{Error}
@@ -33,7 +33,7 @@ use Rattle.summaries_engine.specs.declared.stop.Stop.TheVariants as stop
 use Rattle.summaries_engine.specs.Facts.{blocked_text}
 use Rattle.summaries_engine.specs.Kinds.{HaveSameKind, HaveSameShape, IsFileOfKind, UnitesParts, file_of_kind, has_hash, parts_of}
 use Rattle.summaries_engine.specs.Loaded.{IsRightIn, head_layout, layout_given}
-use Rattle.summaries_engine.specs.Sizes.{IsEmpty, IsShapeOf, IsSizedFor, IsUnsizedFor}
+use Rattle.summaries_engine.specs.Sizes.{HasSeed, IsEmpty, IsShapeOf, IsSizedFor, IsUnsizedFor}
 use Rattle.summaries_engine.specs.Summaries.{IsFilled, IsSummaryOf, IsUnionOf}
 use Rattle.summaries_engine.proofs.SummaryFacts.{hash-a}
 
@@ -180,22 +180,27 @@ filled-classic did = let wrong : false ≡ true = did.bits 128 in cc
 
 -- ---- empty filters and their sizes
 
--- no bit is set, under the zero key
+-- no bit is set
 empty-none : IsEmpty (line 0)
 unfolding whole_words rest
 empty-none = record {
   clear = content-zeros 8;
-  key = record { low = refl; high = refl; words = refl; held = refl; count = refl };
+  keyed = record { low = refl; high = refl; words = refl; held = refl; count = refl };
 }
 
--- a bit may not be set, nor the key be another
+-- a bit may not be set, nor may the hashers have taken in a byte
 empty-bit : IsEmpty (line 1) → ⊥
 unfolding content
 empty-bit is = let wrong : true ≡ false = is.clear 192 in cc
 
-empty-keyed : (f : DefaultFilter) → f.hasher.hasher.low ≡ 1 → IsEmpty f → ⊥
+empty-keyed : (f : DefaultFilter) → f.hasher.hasher.count ≡ 1 → IsEmpty f → ⊥
 empty-keyed f one is =
-    let wrong : 1 ≡ 0 = sym one ∙ is.key.low in omega (arith, wrong)
+    let wrong : 1 ≡ 0 = sym one ∙ is.keyed.count in omega (arith, wrong)
+
+-- the key of a seed has its highest byte first: 2 ^ 120 is a byte 1 and fifteen zero bytes
+seed-first : (f : DefaultFilter) → f.hasher.hasher.low ≡ 0 → HasSeed f (2 ^ 120) → ⊥
+seed-first f zero is =
+    let wrong : 0 ≡ 1 = sym zero ∙ is.low in omega (arith, wrong)
 
 -- the shape is that of the filter
 shape-line : IsShapeOf (line 5) shape

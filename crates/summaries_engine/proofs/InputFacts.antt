@@ -91,7 +91,7 @@ at-none Within stop = none stop.before stop.are
 -- ---- what is made of the keys
 
 -- the hashes of both
-hashes-both : HashesInputs two 10 (codes "j" ∷ codes "k" ∷ [])
+hashes-both : HashesInputs two (0, 0) 10 (codes "j" ∷ codes "k" ∷ [])
     (0x4074_48d2_b89b_1813 ∷ 0x8b22_cf26_02fb_60ce ∷ [])
 unfolding sip start round absorb answer whole_words rest
 hashes-both = record {
@@ -101,7 +101,7 @@ hashes-both = record {
 }
 
 -- no hash is that of no key
-hashes-more : HashesInputs two 10 [] (1 ∷ []) → ⊥
+hashes-more : HashesInputs two (0, 0) 10 [] (1 ∷ []) → ⊥
 hashes-more is = by is.parts is.keys is.hashed
   where
     by : (parts : List (List (List ℕ))) → HaveKeys two 10 [] parts

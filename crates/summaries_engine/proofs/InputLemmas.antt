@@ -1,8 +1,8 @@
 -- Inputs that were taken one after the other.
-use Rattle.std.proofs.Common.{◌≡◌, zero, suc, ◌<◌, ℕ, ◌+◌, inl, inr, List, [], ◌∷◌, ◌++◌, map, length, get_or, take, Bor, Option, refl, sym, subst, ◌∙◌, ap, arith, append-nil}
+use Rattle.std.proofs.Common.{◌≡◌, zero, suc, ◌<◌, ◌≤◌, ℕ, ◌+◌, inl, inr, List, [], ◌∷◌, ◌++◌, map, length, get_or, take, Bor, Option, refl, sym, subst, ◌∙◌, ap, arith, append-nil}
 use Rattle.std.proofs.KnownBytes.{Appends-trans}
 use Rattle.std.proofs.lemmas.Grind.{flat_map-append}
-use Rattle.std.proofs.lemmas.List.{length-map, map-append, take_more}
+use Rattle.std.proofs.lemmas.List.{length-map, map-append, take_all, take_more}
 use Rattle.std.specs.Io.KnownBytes.{Appends}
 use Rattle.bloom_parts.specs.Sip.{sip}
 use Rattle.summaries_engine.specs.declared.kinds.AnyFilter.{AnyFilter}
@@ -11,7 +11,8 @@ use Rattle.lines.specs.Writing.{AppendsPart}
 use Rattle.summaries_engine.specs.declared.answers.Wanted.{Wanted}
 use Rattle.summaries_engine.specs.declared.stop.Stop.{Stop}
 use Rattle.summaries_engine.specs.Answers.{AnswersAll, HashesAll, wanted_text}
-use Rattle.summaries_engine.specs.Inputs.{HasKeys, HaveKeys, Lies, StopsAsking, StopsAt, StopsAnswered, StopsHashes, StopsInput}
+use Rattle.summaries_engine.specs.Fillers.{HasTaken}
+use Rattle.summaries_engine.specs.Inputs.{HasKeys, HashesInputs, HaveKeys, Lies, StopsAsking, StopsAt, StopsAnswered, StopsHashes, StopsInput}
 use Rattle.summaries_engine.specs.Stops.{StopsAnswers, StopsHashing}
 use Rattle.summaries_engine.specs.Summaries.{joined}
 use Rattle.summaries_engine.proofs.AskingLemmas.{wanted_text-append}
@@ -34,11 +35,18 @@ joined-more parts keys =
     ∙ ap (λ l. joined parts ++ l) (append-nil keys)
 
 -- the inputs of the first of these names were hashed
-pub record AreHashed (lies : Lies) (end : ℕ) (names : List (List ℕ)) (count : ℕ)
+pub record AreHashed (lies : Lies) (key : ℕ × ℕ) (end : ℕ) (names : List (List ℕ)) (count : ℕ)
     (hashes : List ℕ) : Type 0 where
   pub parts : List (List (List ℕ))
   pub keys : HaveKeys lies end (take count names) parts
-  pub hashed : hashes ≡ map (sip 0 0) (joined parts)
+  pub hashed : hashes ≡ map (sip key.0 key.1) (joined parts)
+
+-- of the hashes of the first of these names some were taken, and the others wait
+pub record AreTaken {F : Type 0} (took : F → List ℕ → F → Type 0) (lies : Lies) (key : ℕ × ℕ)
+    (end : ℕ) (names : List (List ℕ)) (count : ℕ) (first now : F) (waits : List ℕ) : Type 0 where
+  pub hashes : List ℕ
+  pub hashed : AreHashed lies key end names count hashes
+  pub taken : HasTaken took first now waits hashes
 
 -- the inputs of the first of these names were answered
 pub record AreAnswered (lies : Lies) (f : AnyFilter) (wanted : Wanted) (end : ℕ)
@@ -94,6 +102,20 @@ names-from (name ∷ names) (suc count) other within =
     let rest = names-from names count other (omega (arith, within)) in
     (rest.0, ap (λ l. name.now ∷ l) rest.1)
 
+-- behind the last name all inputs were hashed
+pub hashed-all : {lies : Lies} {key : ℕ × ℕ} {end : ℕ} (names : List (Bor (List ℕ)))
+    (count : ℕ) {hashes : List ℕ} → length names ≤ count
+    → AreHashed lies key end (texts names) count hashes
+    → HashesInputs lies key end (texts names) hashes
+hashed-all {lies = lies} {end = end} names count last so_far = record {
+  parts = so_far.parts;
+  keys = subst (λ l. HaveKeys lies end l so_far.parts)
+      (take_all count (texts names)
+      (subst (λ n. n ≤ count) (sym (length-map names (λ name. name.now))) last))
+      so_far.keys;
+  hashed = so_far.hashed;
+}
+
 module _ (lies : Lies) (end : ℕ) (names : List (Bor (List ℕ))) (count : ℕ)
     (other : Bor (List ℕ)) (within : count < length names) where
   -- the first names and the next
@@ -105,11 +127,11 @@ module _ (lies : Lies) (end : ℕ) (names : List (Bor (List ℕ))) (count : ℕ)
       ∙ ap (λ n. take count (texts names) ++ n ∷ []) (sym (text-at names count other within))
 
   -- one input more was hashed
-  pub hashed-more : {read left : Option (List ℕ)} {hashes more : List ℕ}
-      → AreHashed lies end (texts names) count hashes
-      → lies (get_or names count other).now read → HashesAll end read left hashes more
-      → AreHashed lies end (texts names) (count + 1) more
-  hashed-more {read = read} {left = left} {hashes = hashes} so_far there all = record {
+  pub hashed-more : {key : ℕ × ℕ} {read left : Option (List ℕ)} {hashes more : List ℕ}
+      → AreHashed lies key end (texts names) count hashes
+      → lies (get_or names count other).now read → HashesAll key end read left hashes more
+      → AreHashed lies key end (texts names) (count + 1) more
+  hashed-more {key = key} {read = read} {left = left} {hashes = hashes} so_far there all = record {
     parts = so_far.parts ++ all.keys ∷ [];
     keys = subst (λ l. HaveKeys lies end l (so_far.parts ++ all.keys ∷ [])) (sym next-name)
         (HaveKeys-more lies end (take count (texts names)) (get_or names count other).now
@@ -121,9 +143,9 @@ module _ (lies : Lies) (end : ℕ) (names : List (Bor (List ℕ))) (count : ℕ)
           short = all.short;
         }));
     hashed =
-        all.hashed ∙ ap (λ l. l ++ map (sip 0 0) all.keys) so_far.hashed
-        ∙ sym (map-append (sip 0 0) (joined so_far.parts) all.keys)
-        ∙ ap (map (sip 0 0)) (sym (joined-more so_far.parts all.keys));
+        all.hashed ∙ ap (λ l. l ++ map (sip key.0 key.1) all.keys) so_far.hashed
+        ∙ sym (map-append (sip key.0 key.1) (joined so_far.parts) all.keys)
+        ∙ ap (map (sip key.0 key.1)) (sym (joined-more so_far.parts all.keys));
   }
 
   -- one input more was answered
@@ -167,15 +189,16 @@ module _ (lies : Lies) (end : ℕ) (names : List (Bor (List ℕ))) (count : ℕ)
 
   module _ (fails : List ℕ → Stop → Type 0) {stop : Stop} where
     -- hashing stops at an input that isn't had
-    pub hashes-unopened : {hashes : List ℕ} → AreHashed lies end (texts names) count hashes
+    pub hashes-unopened : {key : ℕ × ℕ} {hashes : List ℕ}
+        → AreHashed lies key end (texts names) count hashes
         → fails (get_or names count other).now stop → StopsHashes lies fails end (texts names) stop
     hashes-unopened so_far failed =
         stops-at so_far.parts so_far.keys
         (λ keys name. StopsInput lies fails end name stop) (inl failed)
 
     -- hashing stops within an input
-    pub hashes-stopped : {hashes : List ℕ} {read : Option (List ℕ)}
-        → AreHashed lies end (texts names) count hashes
+    pub hashes-stopped : {key : ℕ × ℕ} {hashes : List ℕ} {read : Option (List ℕ)}
+        → AreHashed lies key end (texts names) count hashes
         → lies (get_or names count other).now read
         → StopsHashing end (get_or names count other).now read stop
         → StopsHashes lies fails end (texts names) stop

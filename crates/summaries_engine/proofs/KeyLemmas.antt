@@ -7,6 +7,7 @@ use Rattle.bloom_parts.specs.Sip.{sip}
 use Rattle.lines.specs.Reading.{Waiting, AreShort, Ends, KnowsEnd, TakesShortBy, left_of}
 use Rattle.lines.proofs.TakenLemmas.{TakesLinesBy, TakesLines-nil, TakesLines-more, IsReadWhole-from}
 use Rattle.summaries_engine.specs.Answers.{HashesAll}
+use Rattle.summaries_engine.specs.Fillers.{HasTaken}
 
 -- these keys were read so far
 pub record HasRead (end : ℕ) (read : Option (List ℕ)) (reader : Waiting)
@@ -52,58 +53,73 @@ pub one-more : (number : ℕ) (keys : List (List ℕ)) (key : List ℕ) → numb
     → number + 1 ≡ length (keys ++ key ∷ [])
 one-more number keys key counted = simp length-append (omega (arith, counted))
 
--- the keys so far were hashed, behind the hashes with which it began
-pub record IsHashing (end : ℕ) (read : Option (List ℕ)) (reader : Waiting)
-    (left : Option (List ℕ)) (number : ℕ) (began hashes : List ℕ) : Type 0 where
+-- the keys so far were taken, and the hashes of the last ones may wait
+pub record IsTaking {F : Type 0} (took : F → List ℕ → F → Type 0) (key : ℕ × ℕ) (end : ℕ)
+    (read : Option (List ℕ)) (reader : Waiting) (left : Option (List ℕ)) (number : ℕ)
+    (from now : F) (waited waits : List ℕ) : Type 0 where
   pub keys : List (List ℕ)
   pub has_read : HasRead end read reader left keys
   pub counted : number ≡ length keys
-  pub hashed : hashes ≡ began ++ map (sip 0 0) keys
+  pub taken : (first : F) (hashes : List ℕ) → HasTaken took first from waited hashes
+      → HasTaken took first now waits (hashes ++ map (sip key.0 key.1) keys)
 
 -- no key yet
-pub hashing-none : (end : ℕ) {E : Type 0} {read : Option (List ℕ)} {result : Result Waiting E}
-    {reader : Waiting} {hashes : List ℕ} → result ≡ Ok reader
-    → IfOk result (λ new. new.bytes ≡ []) → IfOk result (λ new. new.ended ≡ false)
-    → IfOk result (λ new. new.longest ≡ 65536) → IsHashing end read reader read 0 hashes hashes
-hashing-none end {hashes = hashes} made empty opened longest = record {
+pub taking-none : {F : Type 0} (took : F → List ℕ → F → Type 0) (key : ℕ × ℕ) (end : ℕ)
+    {E : Type 0} {read : Option (List ℕ)} {result : Result Waiting E} {reader : Waiting}
+    {from : F} {waited : List ℕ} → result ≡ Ok reader → IfOk result (λ new. new.bytes ≡ [])
+    → IfOk result (λ new. new.ended ≡ false) → IfOk result (λ new. new.longest ≡ 65536)
+    → IsTaking took key end read reader read 0 from from waited waited
+taking-none took key end {from = from} {waited = waited} made empty opened longest = record {
   keys = [];
   has_read = read-none end made empty opened longest;
   counted = refl;
-  hashed = sym (append-nil hashes);
+  taken = λ first hashes so_far.
+      subst (HasTaken took first from waited) (sym (append-nil hashes)) so_far;
 }
 
--- one key more, whose hash was pushed
-pub hashing-next : {end : ℕ} {read left rest : Option (List ℕ)} {old : Waiting}
-    {number hash : ℕ} {key began hashes more : List ℕ}
-    → IsHashing end read old left number began hashes → (new : Waiting)
+-- one key more, whose hash was taken
+pub taking-next : {F : Type 0} {took : F → List ℕ → F → Type 0} {key : ℕ × ℕ} {end : ℕ}
+    {read left rest : Option (List ℕ)} {old : Waiting} {number hash : ℕ} {line : List ℕ}
+    {from now then : F} {waited waits more : List ℕ}
+    → IsTaking took key end read old left number from now waited waits → (new : Waiting)
     → TakesShortBy end old.longest (left_of old left) (left_of new rest) new.line
     → KnowsEnd new.ended rest → new.longest ≡ old.longest
-    → key ≡ new.line → hash ≡ sip 0 0 key
-    → more ≡ hashes ++ hash ∷ [] → IsHashing end read new rest (number + 1) began more
-hashing-next {end = end} {read = read} {left = left} {rest = rest} {old = old} {number = number}
-    {hash = hash} {began = began} {hashes = hashes} {more = more} so_far new next
-    knows same line hashed pushed =
+    → line ≡ new.line → hash ≡ sip key.0 key.1 line
+    → ((first : F) (hashes : List ℕ) → HasTaken took first now waits hashes
+    → HasTaken took first then more (hashes ++ hash ∷ []))
+    → IsTaking took key end read new rest (number + 1) from then waited more
+taking-next {took = took} {key = key} {end = end} {read = read} {left = left} {rest = rest}
+    {old = old} {number = number} {hash = hash} {then = then} {more = more} so_far new
+    next knows same is hashed step =
     let keys = so_far.keys in
-    let before = map (sip 0 0) keys in record {
+    let before = map (sip key.0 key.1) keys in record {
       keys = keys ++ new.line ∷ [];
       has_read = read-next end read old new left rest keys so_far.has_read next knows same;
       counted = one-more number keys new.line so_far.counted;
-      hashed =
-          pushed ∙ ap (λ l. l ++ hash ∷ []) so_far.hashed
-          ∙ ap (λ h. (began ++ before) ++ h ∷ []) (hashed ∙ ap (sip 0 0) line)
-          ∙ append_assoc began before (sip 0 0 new.line ∷ [])
-          ∙ ap (λ l. began ++ l) (sym (map-append (sip 0 0) keys (new.line ∷ [])));
+      taken = λ first hashes earlier.
+          subst (HasTaken took first then more)
+          (ap (λ h. (hashes ++ before) ++ h ∷ []) (hashed ∙ ap (sip key.0 key.1) is)
+          ∙ append_assoc hashes before (sip key.0 key.1 new.line ∷ [])
+          ∙ ap (λ l. hashes ++ l) (sym (map-append (sip key.0 key.1) keys (new.line ∷ []))))
+          (step first (hashes ++ before) (so_far.taken first hashes earlier));
     }
 
--- all keys were hashed
-pub hashing-end : {end : ℕ} {read left : Option (List ℕ)} {old : Waiting} {number : ℕ}
-    {began hashes : List ℕ} → IsHashing end read old left number began hashes → (new : Waiting)
-    (rest : Option (List ℕ)) → Ends (left_of old left) (left_of new rest)
-    → HashesAll end read rest began hashes
-hashing-end {end = end} {read = read} {left = left} {old = old} so_far new rest ends = record {
-  keys = so_far.keys;
-  whole = IsReadWhole-from end read (left_of old left) rest new.bytes so_far.keys
-      so_far.has_read.taken ends;
-  short = so_far.has_read.short;
-  hashed = so_far.hashed;
-}
+-- all keys were taken
+pub taking-end : {F : Type 0} {took : F → List ℕ → F → Type 0} {key : ℕ × ℕ} {end : ℕ}
+    {read left : Option (List ℕ)} {old : Waiting} {number : ℕ} {from now : F}
+    {waited waits : List ℕ} → IsTaking took key end read old left number from now waited waits
+    → (new : Waiting) (rest : Option (List ℕ)) → Ends (left_of old left) (left_of new rest)
+    → (first : F) (hashes : List ℕ) → HasTaken took first from waited hashes → (more : List ℕ)
+    × HashesAll key end read rest hashes more × HasTaken took first now waits more
+taking-end {key = key} {end = end} {read = read} {left = left} {old = old} so_far new rest ends
+    first hashes earlier = (
+      hashes ++ map (sip key.0 key.1) so_far.keys,
+      record {
+        keys = so_far.keys;
+        whole = IsReadWhole-from end read (left_of old left) rest new.bytes so_far.keys
+            so_far.has_read.taken ends;
+        short = so_far.has_read.short;
+        hashed = refl;
+      },
+      so_far.taken first hashes earlier,
+    )

@@ -1,13 +1,14 @@
 mod AnswerFacts
 mod AskingLemmas
 mod BlockedFacts
-mod BlockedLemmas
 mod BothLemmas
 mod ComparingFacts
 mod ComparingLemmas
 mod CutLemmas
 mod CuttingLemmas
+mod EmptyLemmas
 mod FilledLemmas
+mod FillerLemmas
 mod InputFacts
 mod InputLemmas
 mod InputStopFacts
@@ -22,6 +23,7 @@ mod NamingLemmas
 mod RefusalFacts
 mod RefusalLemmas
 mod SealLemmas
+mod ShapeLemmas
 mod ShardFacts
 mod ShardLemmas
 mod SizeFacts

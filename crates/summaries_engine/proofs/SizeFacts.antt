@@ -1,19 +1,18 @@
--- The shape for keys at a rate: a case that holds, and cases that nearly do. A thousand keys at one
--- half take 1448 bits, so 23 words, and one hash suits these.
-use Rattle.std.proofs.Common.{◌≡◌, ℕ, ◌*◌, None, Some, refl, ap, subst, sym, ◌∙◌, arith}
-use Rattle.bloom_parts.specs.declared.error.FilterError.TheVariants.{SizeOverflow}
+-- The filter for keys at a rate: a case that holds, and cases that nearly do. A thousand keys at
+-- one half take 1448 bits, so 23 words, and one hash suits these.
+use Rattle.std.proofs.Common.{◌≡◌, ℕ, length, ◌*◌, None, Some, refl, ap, subst, sym, ◌∙◌, arith}
+use Rattle.bloom_parts.specs.declared.error.FilterError.TheVariants.{Memory, SizeOverflow}
 use Rattle.bloom_parts.specs.declared.math.rate.Rate.{Rate}
 use Rattle.bloom_parts.specs.Rates.{num_of, den_of}
 use Rattle.bloom_parts.specs.Sizing.{IsSizeFor, hashes_for}
-use Rattle.fastbloom.specs.Builders.{words_for, size_refusal}
-use Rattle.fastbloom.specs.Fill.{hashes_of, words_of}
-use Rattle.fastbloom.specs.declared.parallel.shape.Shape.{Shape}
-use Rattle.summaries_engine.specs.Sizes.{IsShapeFor, IsUnshapedFor}
+use Rattle.fastbloom.specs.Builders.{words_for, RefusesAs, size_refusal}
+use Rattle.fastbloom.specs.Data.{DefaultFilter}
+use Rattle.summaries_engine.specs.Sizes.{IsClassicFor, IsUnmadeFor}
 
-module _ (rate : Rate) (num : num_of rate ≡ 1) (den : den_of rate ≡ 2) (shape : Shape) where
+module _ (rate : Rate) (num : num_of rate ≡ 1) (den : den_of rate ≡ 2) (f : DefaultFilter) where
   -- 23 words and one hash
-  shape-half : IsSizeFor 1000 1 2 1448 → words_of shape ≡ 23 → hashes_of shape ≡ 1
-      → IsShapeFor 1000 rate shape
+  shape-half : IsSizeFor 1000 1 2 1448 → length f.words ≡ 23 → f.hashes ≡ 1
+      → IsClassicFor 1000 rate f
   shape-half size words hashes = record {
     bits = 1448;
     size =
@@ -24,15 +23,15 @@ module _ (rate : Rate) (num : num_of rate ≡ 1) (den : den_of rate ≡ 2) (shap
   }
 
   -- two hashes don't suit 23 words
-  shape-hashes : words_of shape ≡ 23 → hashes_of shape ≡ 2 → IsShapeFor 1000 rate shape → ⊥
+  shape-hashes : length f.words ≡ 23 → f.hashes ≡ 2 → IsClassicFor 1000 rate f → ⊥
   shape-hashes words hashes is =
       let wrong : 2 ≡ 1 =
       sym hashes ∙ is.hashes ∙ ap (λ w. hashes_for (64 * w) 1000) words in
       omega (arith, wrong)
 
   -- 24 words are too many, since one size alone is right
-  shape-words : ((size : ℕ) → IsSizeFor 1000 1 2 size → size ≡ 1448) → words_of shape ≡ 24
-      → IsShapeFor 1000 rate shape → ⊥
+  shape-words : ((size : ℕ) → IsSizeFor 1000 1 2 size → size ≡ 1448) → length f.words ≡ 24
+      → IsClassicFor 1000 rate f → ⊥
   shape-words one words is =
       let size : IsSizeFor 1000 1 2 is.bits =
       subst (λ d. IsSizeFor 1000 1 d is.bits) den
@@ -42,22 +41,22 @@ module _ (rate : Rate) (num : num_of rate ≡ 1) (den : den_of rate ≡ 2) (shap
       omega (arith, wrong)
 
   -- 1448 bits are refused for nothing
-  unshaped-none : IsSizeFor 1000 1 2 1448 → IsUnshapedFor 1000 rate None
+  unshaped-none : IsSizeFor 1000 1 2 1448 → IsUnmadeFor 1000 rate None
   unshaped-none size = record {
     bits = 1448;
     size =
         subst (λ d. IsSizeFor 1000 (num_of rate) d 1448) (sym den)
         (subst (λ n. IsSizeFor 1000 n 2 1448) (sym num) size);
-    refused = refl;
+    refused = tt;
   }
 
   -- and so not for their number
   unshaped-large : ((size : ℕ) → IsSizeFor 1000 1 2 size → size ≡ 1448)
-      → IsUnshapedFor 1000 rate (Some SizeOverflow) → ⊥
+      → IsUnmadeFor 1000 rate (Some SizeOverflow) → ⊥
   unshaped-large one is =
       let size : IsSizeFor 1000 1 2 is.bits =
       subst (λ d. IsSizeFor 1000 1 d is.bits) den
       (subst (λ n. IsSizeFor 1000 n (den_of rate) is.bits) num is.size) in
-      let wrong : Some SizeOverflow ≡ None =
-      is.refused ∙ ap size_refusal (one is.bits size) in
+      let wrong : SizeOverflow ≡ Memory =
+      subst (λ b. RefusesAs (size_refusal b) (Some SizeOverflow)) (one is.bits size) is.refused in
       cc

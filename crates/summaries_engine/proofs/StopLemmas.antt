@@ -14,9 +14,9 @@ use Rattle.summaries_engine.specs.declared.stop.Stop.{Stop}
 use Rattle.summaries_engine.specs.declared.stop.Stop.TheVariants.{Memory}
 use Rattle.summaries_engine.specs.Answers.{wanted_text}
 use Rattle.summaries_engine.specs.Refusals.{too_long_text}
-use Rattle.summaries_engine.specs.Stops.{IsBad, IsReasonAfter, IsUnreadable, IsUnwritten, Says, StopsAfter, StopsAnswers, StopsHashing, StopsWriting}
+use Rattle.summaries_engine.specs.Stops.{IsBad, IsMemory, IsReasonAfter, IsUnreadable, IsUnwritten, Says, StopsAfter, StopsAnswers, StopsHashing, StopsWriting}
 use Rattle.summaries_engine.proofs.AskingLemmas.{IsAnswering, part-whole, wanted_text-append}
-use Rattle.summaries_engine.proofs.KeyLemmas.{IsHashing, read-next}
+use Rattle.summaries_engine.proofs.KeyLemmas.{IsTaking, read-next}
 
 -- no line is the first of none
 pub from-none : (end : ℕ) (read : Option (List ℕ)) → IsReadFromBy end read []
@@ -67,8 +67,8 @@ module _ {end : ℕ} {name : List ℕ} {read left : Option (List ℕ)} {reader :
   }
 
   -- hashing stops for a reason why the keys so far aren't taken on
-  pub hashing-stops : {began hashes : List ℕ}
-      → IsHashing end read reader left number began hashes
+  pub hashing-stops : {F : Type 0} {took : F → List ℕ → F → Type 0} {key : ℕ × ℕ} {from now : F}
+      {waited waits : List ℕ} → IsTaking took key end read reader left number from now waited waits
       → Why end name read reader left number stop → StopsHashing end name read stop
   hashing-stops so_far why = record {
     keys = so_far.keys;
@@ -92,10 +92,12 @@ module _ {end : ℕ} {name : List ℕ} {read left : Option (List ℕ)} {reader :
   })
 
 -- hashing stops where there is no memory for the hash of the next key
-pub hashing-room : {end : ℕ} {name : List ℕ} {read left : Option (List ℕ)} {reader : Waiting}
-    {number : ℕ} {began hashes : List ℕ} → IsHashing end read reader left number began hashes
-    → StopsHashing end name read Memory
-hashing-room so_far = hashing-stops so_far (why-read (inl tt))
+pub hashing-room : {F : Type 0} {took : F → List ℕ → F → Type 0} {key : ℕ × ℕ} {end : ℕ}
+    {name : List ℕ} {read left : Option (List ℕ)} {reader : Waiting} {number : ℕ} {from now : F}
+    {waited waits : List ℕ} {stop : Stop}
+    → IsTaking took key end read reader left number from now waited waits → IsMemory stop
+    → StopsHashing end name read stop
+hashing-room so_far memory = hashing-stops so_far (why-read (inl memory))
 
 -- the answers so far were written, and a flush of them failed
 pub asking-unflushed : {f : AnyFilter} {wanted : Wanted} {end : ℕ}

@@ -16,13 +16,14 @@ abbrev pub IsKeyed : AnyFilter → Type 0
 IsKeyed f =
     HasKey (parts_of f).hasher (key_of (parts_of f).hasher).0 (key_of (parts_of f).hasher).1
 
--- the hashes, under the zero key, of all keys that a reader had follow those that were there, and
--- none of the keys is too long
-pub record HashesAll (end : ℕ) (read left : Option (List ℕ)) (old new : List ℕ) : Type 0 where
+-- the hashes, under a key, of all keys that a reader had follow those that were there, and none of
+-- the keys is too long
+pub record HashesAll (key : ℕ × ℕ) (end : ℕ) (read left : Option (List ℕ)) (old new : List ℕ)
+    : Type 0 where
   pub keys : List (List ℕ)
   pub whole : IsReadWholeBy end read left keys
   pub short : AreShort 65536 keys
-  pub hashed : new ≡ old ++ map (sip 0 0) keys
+  pub hashed : new ≡ old ++ map (sip key.0 key.1) keys
 
 -- whether a key is wanted: those that may be in, or those that are surely absent
 abbrev pub is_wanted : Wanted → Bool → Bool

@@ -32,12 +32,12 @@ HaveKeys lies end (name ∷ names) [] = ⊥
 HaveKeys lies end (name ∷ names) (keys ∷ parts) =
     HasKeys lies end name keys × HaveKeys lies end names parts
 
--- these are the hashes, under the zero key, of all keys of all inputs
-pub record HashesInputs (lies : Lies) (end : ℕ) (names : List (List ℕ)) (hashes : List ℕ) : Type 0
-  where
-    pub parts : List (List (List ℕ))
-    pub keys : HaveKeys lies end names parts
-    pub hashed : hashes ≡ map (sip 0 0) (joined parts)
+-- these are the hashes, under a key, of all keys of all inputs
+pub record HashesInputs (lies : Lies) (key : ℕ × ℕ) (end : ℕ) (names : List (List ℕ))
+    (hashes : List ℕ) : Type 0 where
+  pub parts : List (List (List ℕ))
+  pub keys : HaveKeys lies end names parts
+  pub hashed : hashes ≡ map (sip key.0 key.1) (joined parts)
 
 -- all keys of all inputs were asked for, and those that are wanted were written
 pub record AnswersInputs (lies : Lies) (f : AnyFilter) (wanted : Wanted) (end : ℕ)

@@ -1,11 +1,13 @@
 pub mod Answers
 pub mod Comparing
 pub mod Facts
+pub mod Fillers
 pub mod Inputs
 pub mod Kinds
 pub mod Loaded
 pub mod Named
 pub mod Refusals
+pub mod Scripts
 pub mod Sizes
 pub mod Stops
 pub mod Summaries

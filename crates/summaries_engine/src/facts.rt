@@ -7,8 +7,8 @@ use crate::form::Form;
 use fastbloom::{BlockedBloomFilter, BloomFilter, Estimate};
 use std::alloc::{AllocError, Global};
 
-// What a form is called.
-fn name_of(form: Form) -> &'static str
+/// What a form is called.
+pub(crate) fn name_of(form: Form) -> &'static str
     ensures { result.now ≡ form_text form }
 {
     match form {
@@ -58,8 +58,8 @@ pub fn items_of(alloc: Global, items: Estimate) -> Result<String, AllocError>
     }
 }
 
-// A fraction in units of 2^-63, in billionths rounded down.
-fn billionths_below(part: u64) -> u64
+/// A fraction in units of 2^-63, in billionths rounded down.
+pub(crate) fn billionths_below(part: u64) -> u64
     requires { part ≤ 2 ^ 63 }
     ensures { result ≡ part * 10 ^ 9 / 2 ^ 63 }
 {
@@ -67,8 +67,8 @@ fn billionths_below(part: u64) -> u64
     billionths as u64
 }
 
-// A fraction in units of 2^-63, in billionths rounded up.
-fn billionths_above(part: u64) -> u64
+/// A fraction in units of 2^-63, in billionths rounded up.
+pub(crate) fn billionths_above(part: u64) -> u64
     requires { part ≤ 2 ^ 63 }
     ensures { result ≡ div_ceil (part * 10 ^ 9) (2 ^ 63) }
 {
@@ -76,8 +76,8 @@ fn billionths_above(part: u64) -> u64
     billionths as u64
 }
 
-// A fraction in billionths, with nine digits behind the point.
-fn fraction_of(alloc: Global, billionths: u64) -> Result<String, AllocError>
+/// A fraction in billionths, with nine digits behind the point.
+pub(crate) fn fraction_of(alloc: Global, billionths: u64) -> Result<String, AllocError>
     ensures { IfOk result (λ text. string_bytes text ≡ billionths_text billionths) }
 {
     let (whole, part) = (billionths / 1_000_000_000, billionths % 1_000_000_000);

@@ -1,13 +1,15 @@
 //! Keys: the lines of inputs, without their ends.
-ghost use Rattle.std.specs.Prelude.{◌≡◌, ℕ, codes, ◌++◌, map, IfErr, IfOk, OnOk};
+ghost use Rattle.std.specs.Prelude.{◌≡◌, ◌⊎◌, ℕ, codes, List, [], ◌∷◌, ◌++◌, map, IfErr, IfOk, OnOk};
 ghost use Rattle.std.specs.IoError.{error_kind};
 ghost use Rattle.bloom_parts.specs.Keys.{HasKey};
 ghost use Rattle.bloom_parts.specs.Sip.{sip};
 ghost use Rattle.summaries_engine.specs.Answers.{HashesAll};
+ghost use Rattle.summaries_engine.specs.Fillers.{HasTaken};
 ghost use Rattle.summaries_engine.specs.Inputs.{HashesInputs, StopsHashes};
 ghost use Rattle.summaries_engine.specs.Refusals.{too_long_text};
-ghost use Rattle.summaries_engine.specs.Stops.{IsBad, IsUnreadAs, IsUnreadable, Says, StopsHashing};
+ghost use Rattle.summaries_engine.specs.Stops.{IsBad, IsMemory, IsUnreadAs, IsUnreadable, Says, StopsHashing};
 
+use crate::filler::Filler;
 use crate::inputs::Inputs;
 use crate::stop::{Stop, cause};
 use anyhow::anyhow;
@@ -58,19 +60,59 @@ pub fn too_many(name: &str) -> Stop
     Stop::Bad(anyhow!("{name}: it has too many keys"))
 }
 
-// Puts the hashes of all keys of an input behind the others.
-fn hash_keys<const END: u8, I: Read>(
+// Gives the hashes that wait to what takes them.
+fn give<F: Filler>(filler: &mut F, waiting: &mut Vec<u64>) -> Result<(), Stop>
+    requires { F.ready filler.old }
+    ensures ready { OnOk result (F.ready filler.new) }
+    ensures none { OnOk result (waiting.new.items ≡ []) }
+    ensures taken { OnOk result ((first : F) (hashes : List ℕ)
+        → HasTaken F.took first filler.old waiting.old.items hashes
+        → HasTaken F.took first filler.new [] hashes) }
+    ensures refused { IfErr result F.refuses }
+{
+    filler.take(waiting.as_slice())?;
+    waiting.clear();
+    Ok(())
+}
+
+// Puts a hash behind those that wait, and gives them where as many wait as are given at once.
+fn take_hash<F: Filler>(filler: &mut F, waiting: &mut Vec<u64>, hash: u64) -> Result<(), Stop>
+    requires { F.ready filler.old }
+    ensures ready { OnOk result (F.ready filler.new) }
+    ensures taken { OnOk result ((first : F) (hashes : List ℕ)
+        → HasTaken F.took first filler.old waiting.old.items hashes
+        → HasTaken F.took first filler.new waiting.new.items (hashes ++ hash ∷ [])) }
+    ensures refused { IfErr result (λ stop. IsMemory stop ⊎ F.refuses stop) }
+{
+    let Ok(()) = waiting.push(hash) else {
+        return Err(Stop::Memory);
+    };
+    if waiting.len() < filler.most() {
+        return Ok(());
+    }
+    give(filler, waiting)
+}
+
+// Takes the hashes of all keys of an input.
+fn take_keys<const END: u8, F: Filler, I: Read>(
     alloc: Global,
+    key: (u64, u64),
     name: &str,
     input: &mut I,
-    hashes: &mut Vec<u64>,
+    filler: &mut F,
+    waiting: &mut Vec<u64>,
 ) -> Result<(), Stop>
-    ensures all { OnOk result (HashesAll END (I.remaining input.old) (I.remaining input.new)
-        hashes.old.items hashes.new.items) }
-    // Why not all were hashed.
-    ensures stops { IfErr result (StopsHashing END name.now (I.remaining input.old)) }
+    requires { F.ready filler.old }
+    ensures ready { OnOk result (F.ready filler.new) }
+    ensures all { OnOk result ((first : F) (hashes : List ℕ)
+        → HasTaken F.took first filler.old waiting.old.items hashes → (more : List ℕ)
+        × HashesAll key END (I.remaining input.old) (I.remaining input.new) hashes more
+        × HasTaken F.took first filler.new waiting.new.items more) }
+    // Why not all were taken.
+    ensures stops { IfErr result (λ stop.
+        StopsHashing END name.now (I.remaining input.old) stop ⊎ F.refuses stop) }
 {
-    let builder = DefaultHasher::keyed(0, 0);
+    let builder = DefaultHasher::keyed(key.0, key.1);
     let Ok(mut lines) = LineReaderBy::<END>::new(alloc, LONGEST) else {
         return Err(Stop::Memory);
     };
@@ -81,33 +123,60 @@ fn hash_keys<const END: u8, I: Read>(
             Ok(Next::TooLong) => return Err(too_long(name, number)),
             Err(error) => return Err(unread(name, error)),
         }
-        let Ok(()) = hashes.push(hash_of(&builder, lines.line())) else {
-            return Err(Stop::Memory);
-        };
+        take_hash(filler, waiting, hash_of(&builder, lines.line()))?;
     }
     Err(too_many(name))
 }
 
-/// The hashes of all keys of the inputs of these names, under the zero key. The byte `END` ends a
-/// key, and so does the end of an input.
+/// Gives the hashes, under a key, of all keys of the inputs of these names to what takes them, as
+/// they are read. The byte `END` ends a key, and so does the end of an input.
 ///
 /// # Errors
-/// At the first input that can't be had or read, or has a key that is too long, and out of memory.
-pub fn hashes_of<const END: u8, S: Inputs>(
+/// At the first input that can't be had or read, or has a key that is too long, out of memory, and
+/// where the hashes aren't taken.
+pub fn take_inputs<const END: u8, F: Filler, S: Inputs>(
     alloc: Global,
+    key: (u64, u64),
     inputs: &S,
     names: &[&str],
-) -> Result<Vec<u64>, Stop>
-    ensures all { IfOk result (λ hashes. HashesInputs (S.has inputs.now) END
-        (map (λ name. name.now) names.now) hashes.items) }
-    // Why not all were hashed.
-    ensures stops { IfErr result (StopsHashes (S.has inputs.now) (S.fails inputs.now) END
-        (map (λ name. name.now) names.now)) }
+    filler: &mut F,
+) -> Result<(), Stop>
+    requires { F.ready filler.old }
+    ensures all { OnOk result ((hashes : List ℕ)
+        × HashesInputs (S.has inputs.now) key END (map (λ name. name.now) names.now) hashes
+        × F.took filler.old hashes filler.new) }
+    // Why not all were taken.
+    ensures stops { IfErr result (λ stop. StopsHashes (S.has inputs.now) (S.fails inputs.now) END
+        (map (λ name. name.now) names.now) stop ⊎ F.refuses stop) }
 {
-    let mut hashes = Vec::new(alloc);
+    let mut waiting = Vec::new(alloc);
     'names: for name in names {
         let mut input = inputs.open(name)?;
-        hash_keys::<END, S::Input>(alloc, name, &mut input, &mut hashes)?;
+        take_keys::<END, F, S::Input>(alloc, key, name, &mut input, filler, &mut waiting)?;
     }
-    Ok(hashes)
+    give(filler, &mut waiting)
+}
+
+/// What is empty, filled with all keys of the inputs of these names. The byte `END` ends a key, and
+/// so does the end of an input.
+///
+/// # Errors
+/// As `take_inputs`.
+pub fn filled_from<const END: u8, F: Filler + Drop, S: Inputs>(
+    alloc: Global,
+    key: (u64, u64),
+    empty: F,
+    inputs: &S,
+    names: &[&str],
+) -> Result<F, Stop>
+    requires { F.ready empty }
+    ensures all { IfOk result (λ filled. (hashes : List ℕ)
+        × HashesInputs (S.has inputs.now) key END (map (λ name. name.now) names.now) hashes
+        × F.took empty hashes filled) }
+    ensures stops { IfErr result (λ stop. StopsHashes (S.has inputs.now) (S.fails inputs.now) END
+        (map (λ name. name.now) names.now) stop ⊎ F.refuses stop) }
+{
+    let mut filler = empty;
+    take_inputs::<END, F, S>(alloc, key, inputs, names, &mut filler)?;
+    Ok(filler)
 }

@@ -1,7 +1,8 @@
 //! Summaries of keys: filters of the keys of shards, their unions, and look-ups in them.
 //!
-//! - `keys`: keys, which are lines, and their hashes.
-//! - `summary`, `blocked`: the filter of all keys of some inputs, filled by workers, or blocked.
+//! - `keys`: keys, which are lines, and their hashes, given to what takes them.
+//! - `filler`, `crew`: what takes hashes: a filter of either kind, or workers that fill one.
+//! - `summary`, `blocked`: the filter of all keys of some inputs, or the blocked one.
 //! - `kinds`: a filter of either kind.
 //! - `unions`, `shards`: the union of filters, also of those that have names.
 //! - `answers`: which keys may be in.
@@ -16,7 +17,9 @@
 mod answers;
 mod blocked;
 mod comparing;
+mod crew;
 mod facts;
+mod filler;
 mod form;
 mod head;
 mod inputs;
@@ -24,6 +27,7 @@ mod keys;
 mod kinds;
 pub mod laws;
 mod loading;
+mod script;
 mod shards;
 mod sizes;
 mod stop;
@@ -33,14 +37,17 @@ mod unions;
 pub use answers::{Wanted, ask};
 pub use blocked::{blocked_for, blocked_with_bits, build_blocked};
 pub use comparing::{compare_named, compared, compared_blocked};
+pub use crew::{Begun, Crew, cut};
 pub use facts::{blocked_facts_of, facts_of};
+pub use filler::Filler;
 pub use form::{Form, put, put_file};
 pub use inputs::Inputs;
-pub use keys::{LONGEST, hash_of, hashes_of, unread};
+pub use keys::{LONGEST, filled_from, hash_of, take_inputs, unread};
 pub use kinds::AnyFilter;
 pub use loading::load;
+pub use script::{blocked_script_of, script_of};
 pub use shards::{Shelf, unite_named};
-pub use sizes::shape_for;
-pub use stop::{Stop, no_json, twice, unsaid, unshaped, written};
-pub use summary::{build, build_through, cut};
+pub use sizes::{classic_for, classic_with_bits};
+pub use stop::{Stop, no_json, twice, unsaid, unshaped, unwritten, written};
+pub use summary::{build, build_alone, build_through};
 pub use unions::{Difference, Refusal, add, unite};

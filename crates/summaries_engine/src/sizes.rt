@@ -1,22 +1,52 @@
-//! The shape of a filter for some keys, at a rate of false positives.
-ghost use Rattle.std.specs.Prelude.{IfOk};
+//! Empty Bloom filters of a size, and for some keys at a rate of false positives.
+ghost use Rattle.std.specs.Prelude.{◌≡◌, max, length, IfOk};
 ghost use Rattle.std.specs.Result.{result_err};
-ghost use Rattle.summaries_engine.specs.Sizes.{IsShapeFor, IsUnshapedFor};
+ghost use Rattle.fastbloom.specs.Builders.{RefusesAs, bits_refusal, words_for};
+ghost use Rattle.summaries_engine.specs.Sizes.{HasSeed, IsClassicFor, IsEmpty, IsUnmadeFor};
 
-use bloom_plain::builder::{num_hashes_for, num_words_for};
-use fastbloom::{FilterError, Rate, Shape, optimal_size};
+use fastbloom::{BloomFilter, FilterError, Rate};
+use std::alloc::Global;
 
-/// The shape of the filter that the library's builders make for this many keys, where 0 counts as
-/// 1, at this rate of false positives.
+/// An empty Bloom filter of at least this many bits, with this many hashes, where 0 counts as 1,
+/// under the key of a seed.
 ///
 /// # Errors
-/// `SizeOverflow` for 2^64 bits or more, and `TooManyWords` for more than 2^58 - 1 words.
-pub fn shape_for(keys: usize, rate: Rate) -> Result<Shape, FilterError>
-    ensures shape { IfOk result (IsShapeFor keys rate) }
-    ensures refused { IsUnshapedFor keys rate (result_err result) }
+/// `ZeroBits` for no bits, `TooManyWords` for more than 2^58 - 1 words, and `Memory` where there is
+/// no room for them.
+pub fn classic_with_bits(
+    alloc: Global,
+    num_bits: usize,
+    num_hashes: u32,
+    seed: &u128,
+) -> Result<BloomFilter, FilterError>
+    ensures empty { IfOk result IsEmpty }
+    ensures key { IfOk result (λ filter. HasSeed filter seed.now) }
+    ensures words { IfOk result (λ filter. length filter.words ≡ words_for num_bits) }
+    ensures hashes { IfOk result (λ filter. filter.hashes ≡ max 1 num_hashes) }
+    ensures refused { RefusesAs (bits_refusal num_bits) (result_err result) }
 {
-    let bits = optimal_size(keys.max(1), rate)?;
-    let words = num_words_for(bits)?;
-    let shape = Shape::new(bits, num_hashes_for(64 * words, keys))?;
-    Ok(shape)
+    let builder = BloomFilter::with_num_bits(alloc, num_bits)?;
+    Ok(builder.seed(seed).hashes(num_hashes))
+}
+
+/// The empty Bloom filter that the library's builders make for this many keys, where 0 counts as 1,
+/// at this rate of false positives, under the key of a seed.
+///
+/// # Errors
+/// `SizeOverflow` for 2^64 bits or more, `TooManyWords` for more than 2^58 - 1 words, and `Memory`
+/// where there is no room for them.
+pub fn classic_for(
+    alloc: Global,
+    keys: usize,
+    rate: Rate,
+    seed: &u128,
+) -> Result<BloomFilter, FilterError>
+    ensures empty { IfOk result IsEmpty }
+    ensures key { IfOk result (λ filter. HasSeed filter seed.now) }
+    ensures sized { IfOk result (IsClassicFor keys rate) }
+    ensures refused { IsUnmadeFor keys rate (result_err result) }
+{
+    BloomFilter::with_false_pos(rate)
+        .seed(seed)
+        .expected_items(alloc, keys)
 }

@@ -1,5 +1,6 @@
 //! Why a run stopped.
 ghost use Rattle.std.specs.Prelude.{◌≡◌, ◌++◌, codes, IfErr, None, OnErr, OnOk};
+ghost use Rattle.std.specs.IoError.{error_kind};
 ghost use Rattle.anyhow.specs.Error.{IsMadeOf};
 ghost use Rattle.summaries_engine.specs.Stops.{IsBad, IsMemory, IsOutput, Says, SaysOver};
 
@@ -7,6 +8,7 @@ use anyhow::anyhow;
 use fastbloom::FilterError;
 use lines::Reason;
 use std::fmt::Display;
+use std::io::ErrorKind;
 use std::{fmt, io};
 
 /// Why a run stopped, with what is said of it.
@@ -82,6 +84,18 @@ pub fn written(done: io::Result<()>, said: &'static str) -> Result<(), Stop>
         Ok(()) => Ok(()),
         Err(error) => Err(Stop::Output(cause(&error).context(said))),
     }
+}
+
+/// Why an output isn't written where a call on its file failed.
+pub fn unwritten(name: &str, error: io::Error) -> Stop
+    ensures told { error_kind error ≡ ErrorKind.OutOfMemory → IsMemory result }
+    ensures other { ¬ (error_kind error ≡ ErrorKind.OutOfMemory)
+        → IsOutput (SaysOver (name.now ++ codes ": it can't be written")) result }
+{
+    if error.kind() == ErrorKind::OutOfMemory {
+        return Stop::Memory;
+    }
+    Stop::Output(cause(&error).context(format_args!("{name}: it can't be written")))
 }
 
 /// Why a read or a write failed, in the words that all programs have for it.

@@ -4,27 +4,27 @@ mod rows;
 
 ghost use Rattle.std.specs.Prelude.{◌<◌, IfOk};
 ghost use Rattle.summaries_engine.specs.Answers.{IsKeyed};
+ghost use Rattle.summaries_engine.specs.Sizes.{IsEmpty};
 
 use super::faulty::{Seen, Sink, WHOLE};
-use crate::fills::{Watching, gate_for};
 use crate::telling::{has_text, tell_row};
-use fastbloom::{FilterError, Shape};
+use fastbloom::{BloomFilter, FilterError};
 use odd::Odd;
 use rows::{A, ACTS, Act, Row, UNREAD, reading_of};
 use std::alloc::Global;
 use std::sync::Arc;
-use std::sync::atomic::Ordering;
 use std::thread::Threads;
 use summaries_engine::{
-    AnyFilter, Stop, Wanted, ask, build, build_through, load, no_json, put, put_file,
+    AnyFilter, Begun, Stop, Wanted, ask, build, build_through, classic_with_bits, load, no_json,
+    put, put_file,
 };
 
 // The filter of the keys of two inputs.
 fn built<R: Threads + AllocGlobal>(rt: &R, odd: &Odd) -> Result<AnyFilter, Stop> {
-    let Ok(shape) = Shape::new(64, 2) else {
+    let Ok(empty) = classic_with_bits(rt.alloc(), 64, 2, &0) else {
         return Err(Stop::Worker);
     };
-    match build::<10, _, _>(rt, rt.alloc(), shape, 2, odd, &["first", "odd"]) {
+    match build::<10, _, _>(rt, rt.alloc(), empty, 2, odd, &["first", "odd"]) {
         Ok(filter) => Ok(AnyFilter::Classic(filter)),
         Err(stop) => Err(stop),
     }
@@ -186,9 +186,9 @@ fn acts_write_and_stop_as_they_are_to(rt: HostRuntime) {
     assert!(rt; are_carried_out(&rt, &rt));
 }
 
-// A gate that awaits no second worker, seen twice.
-fn gate_of(alloc: Global) -> Result<(Arc<Watching, Global>, Arc<Watching, Global>), FilterError> {
-    let gate = Arc::new(alloc, gate_for(1))?;
+// A gate, seen twice.
+fn gate_of(alloc: Global) -> Result<(Arc<Begun, Global>, Arc<Begun, Global>), FilterError> {
+    let gate = Arc::new(alloc, Begun::new())?;
     let seen = Arc::try_clone(&gate)?;
     Ok((gate, seen))
 }
@@ -198,11 +198,12 @@ fn gate_of(alloc: Global) -> Result<(Arc<Watching, Global>, Arc<Watching, Global
 fn is_built<R: Threads>(
     rt: &R,
     alloc: Global,
-    gate: Arc<Watching, Global>,
-    shape: Shape,
+    gate: Arc<Begun, Global>,
+    empty: BloomFilter,
     most: usize,
 ) -> bool
-    requires { 0 < most }
+    requires some { 0 < most }
+    requires empty { IsEmpty empty }
 {
     let seen = Seen::new();
     let odd = Odd {
@@ -210,7 +211,7 @@ fn is_built<R: Threads>(
         reading: WHOLE,
         seen: &seen,
     };
-    let made = build_through::<10, _, _, _>(rt, alloc, gate, shape, most, &odd, &["first", "odd"]);
+    let made = build_through::<10, _, _>(rt, alloc, gate, empty, most, &odd, &["first", "odd"]);
     let is_built = made.is_ok();
     drop(made);
     is_built
@@ -220,13 +221,13 @@ fn is_built<R: Threads>(
 fn has_workers<R: Threads>(rt: &R, alloc: Global, most: usize, workers: u64) -> bool
     requires { 0 < most }
 {
-    let Ok(shape) = Shape::new(64, 2) else {
+    let Ok(empty) = classic_with_bits(alloc, 64, 2, &0) else {
         return false;
     };
     match gate_of(alloc) {
         Ok((gate, seen)) => {
-            let is_built = is_built(rt, alloc, gate, shape, most);
-            let passes = seen.passes.load(Ordering::SeqCst);
+            let is_built = is_built(rt, alloc, gate, empty, most);
+            let passes = seen.count();
             drop(seen);
             is_built & (passes == workers)
         }

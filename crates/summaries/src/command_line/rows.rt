@@ -1,34 +1,12 @@
 //! The arguments of each command.
 
 use super::{
-    ABSENT, BITS, BLOCKED, FILE, FILTER, HASHES, ITEMS, JSON, MOST_HASHES, OTHER, RATE, WORKERS,
-    ZERO,
+    ABSENT, BITS, BLOCKED, FILE, FILTER, HASHES, ITEMS, JSON, KEY, MOST_HASHES, OTHER, OUTPUT,
+    RATE, WORKERS, ZERO,
 };
 use clap::ArgAction;
 use clap::builder::ValueParser;
-
-/// How an argument is given.
-#[derive(Clone, Copy)]
-pub enum Kind {
-    /// By its name.
-    Flag,
-    /// By its name, or by this letter.
-    Letter(char),
-    /// Behind its name, as help calls it. It may have a value where none is given.
-    Option(&'static str, &'static [&'static str], ValueParser<'static>),
-    /// As words, of which there are at least and at most this many.
-    Words(ArgAction, usize, usize),
-}
-
-/// An argument: its name, how it is given, its help, the arguments that it needs, and those that it
-/// can't be given with.
-pub type Row = (
-    &'static str,
-    Kind,
-    &'static str,
-    &'static [&'static str],
-    &'static [&'static str],
-);
+use program_parts::{Kind, Row};
 
 // A number of bits or keys.
 const COUNT: Kind = Kind::Option("N", &[], ValueParser::Unsigned(1, 1_000_000_000_000));
@@ -39,6 +17,14 @@ const JSON_ROW: Row = (
     JSON,
     Kind::Flag,
     "Writes the filter as JSON, in place of the file form",
+    &[],
+    &[],
+);
+
+const OUTPUT_ROW: Row = (
+    OUTPUT,
+    Kind::LetterOption('o', "FILE", ValueParser::String),
+    "Writes this file, which may be an input, in place of standard output",
     &[],
     &[],
 );
@@ -107,7 +93,7 @@ const BUILD: &'static [Row] = &[
     (
         WORKERS,
         Kind::Option("N", &["1"], ValueParser::Signed(1, 1024)),
-        "How many threads may fill the filter",
+        "Threads that may fill the filter: one takes its memory, N take N + 4 times that",
         &[],
         &[],
     ),
@@ -119,6 +105,14 @@ const BUILD: &'static [Row] = &[
         &[JSON],
     ),
     JSON_ROW,
+    (
+        KEY,
+        Kind::Option("HEX", &[], ValueParser::String),
+        "The key of the hash, 32 digits, where others choose the keys; else zero",
+        &[],
+        &[],
+    ),
+    OUTPUT_ROW,
     ZERO_ROW,
     FILE_ROW,
 ];
@@ -126,6 +120,7 @@ const BUILD: &'static [Row] = &[
 const UNITE: &'static [Row] = &[
     MOST_HASHES_ROW,
     JSON_ROW,
+    OUTPUT_ROW,
     (
         FILTER,
         Kind::Words(ArgAction::Append, 1, usize::MAX),
@@ -144,9 +139,21 @@ const ASK: &'static [Row] = &[
         &[],
         &[],
     ),
+    OUTPUT_ROW,
     FILTER_ROW,
     ZERO_ROW,
     FILE_ROW,
+];
+
+const INFO: &'static [Row] = &[
+    (
+        JSON,
+        Kind::Flag,
+        "Prints one line of JSON, for scripts",
+        &[],
+        &[],
+    ),
+    FILTER_ROW,
 ];
 
 const COMPARE: &'static [Row] = &[
@@ -188,7 +195,7 @@ pub const COMMANDS: [CommandRow; 5] = [
         ASK,
         &[],
     ),
-    ("info", "Prints what a filter is", &[FILTER_ROW], &[]),
+    ("info", "Prints what a filter is", INFO, &[]),
     (
         "compare",
         "Prints how many keys two filters have, each and in common",

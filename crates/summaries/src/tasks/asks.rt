@@ -1,18 +1,21 @@
 //! The task that asks a filter for keys.
 ghost use Rattle.summaries_engine.specs.Answers.{IsKeyed};
 
-use super::disk_of;
-use crate::command_line::{ABSENT, FILE, FILTER, ZERO};
-use crate::key_files::{KeyFiles, STANDARD, called, called_inputs, is_output};
+use super::{disk_of, keys_of};
+use crate::command_line::{ABSENT, FILE, FILTER, OUTPUT, ZERO};
+use crate::key_files::{STANDARD, called, called_inputs};
 use clap::ArgMatches;
+use program_parts::first_output;
+use std::cell::Cell;
 use std::io::{BufWriter, Write};
 use std::rt::Files;
 use summaries_engine::{AnyFilter, Shelf, Stop, Wanted, ask, twice, unsaid, written};
 
 // Asks a filter for the keys of these inputs.
-fn ask_for<R: Files + Input + AllocGlobal, O: Write>(
+fn ask_for<R: Files + Input + Eprint + AllocGlobal, O: Write>(
     rt: &R,
     matches: &ArgMatches,
+    is_on: bool,
     filter: &AnyFilter,
     names: &[&str],
     output: &mut O,
@@ -24,7 +27,8 @@ fn ask_for<R: Files + Input + AllocGlobal, O: Write>(
     } else {
         Wanted::Found
     };
-    let files = KeyFiles { rt };
+    let keys = Cell::new(0);
+    let files = keys_of(rt, matches, is_on, &keys);
     if matches.get_flag(ZERO) {
         ask::<0, _, _>(rt.alloc(), filter, wanted, &files, names, output)
     } else {
@@ -33,18 +37,20 @@ fn ask_for<R: Files + Input + AllocGlobal, O: Write>(
 }
 
 // Asks a filter for the keys of these inputs, and writes what it tells.
-fn write_asked<R: Files + Input + Print + AllocGlobal>(
+fn write_asked<R: Files + Input + Eprint + AllocGlobal, W: Write + Drop>(
     rt: &R,
     matches: &ArgMatches,
+    is_on: bool,
     filter: &AnyFilter,
     names: &[&str],
+    output: &mut W,
 ) -> Result<(), Stop>
     requires { IsKeyed filter.now }
 {
-    let Ok(mut output) = BufWriter::new(rt.alloc(), std::io::writer(rt)) else {
+    let Ok(mut output) = BufWriter::new(rt.alloc(), output) else {
         return Err(Stop::Memory);
     };
-    let asked = ask_for(rt, matches, filter, names, &mut output);
+    let asked = ask_for(rt, matches, is_on, filter, names, &mut output);
     // A failed flush lost earlier keys, so it is reported first.
     let flushed = written(output.flush(), "the keys can't be written");
     drop(output);
@@ -53,10 +59,12 @@ fn write_asked<R: Files + Input + Print + AllocGlobal>(
 }
 
 // Asks the filter that the words name for the keys of these inputs.
-fn ask_of<R: Files + Input + Print + AllocGlobal>(
+fn ask_of<R: Files + Input + Eprint + AllocGlobal, W: Write + Drop>(
     rt: &R,
     matches: &ArgMatches,
+    is_on: bool,
     names: &[&str],
+    output: &mut W,
 ) -> Result<(), Stop> {
     let Some(name) = matches.get_str(FILTER) else {
         return Err(unsaid(FILTER));
@@ -66,39 +74,30 @@ fn ask_of<R: Files + Input + Print + AllocGlobal>(
         return Err(twice(STANDARD));
     }
     match disk_of(rt, matches)?.load(name) {
-        Ok(filter) => write_asked(rt, matches, &filter, names),
+        Ok(filter) => write_asked(rt, matches, is_on, &filter, names, output),
         Err(stop) => Err(stop),
     }
-}
-
-// The first of these words for an input that is the output, if one is.
-fn first_output<'a, R: Files>(rt: &R, words: &[&'a str]) -> Option<&'a str> {
-    'words: for word in words {
-        if is_output(rt, word) {
-            return Some(*word);
-        }
-    }
-    None
 }
 
 /// The first word for an input that is the file that standard output is written to, if one is. What
 /// is told there would be read as keys again, without end.
 pub(super) fn word_of_output<'a, R: Files>(rt: &R, matches: &ArgMatches<'a>) -> Option<&'a str> {
-    let filter = matches.get_str(FILTER)?;
-    if is_output(rt, filter) {
-        return Some(filter);
+    if matches.get_str(OUTPUT).unwrap_or("-") != "-" {
+        return None;
     }
-    match matches.get_strs(FILE) {
-        Some(words) => first_output(rt, words),
-        None => { if is_output(rt, "-") { Some("-") } else { None } }
+    match first_output(rt, &[matches.get_str(FILTER)?]) {
+        Some(word) => Some(word),
+        None => first_output(rt, matches.get_strs(FILE).unwrap_or(&["-"])),
     }
 }
 
 // Asks a filter for the keys of the inputs that the words name.
-pub(super) fn run_ask<R: Files + Input + Print + AllocGlobal>(
+pub(super) fn run_ask<R: Files + Input + Eprint + AllocGlobal, W: Write + Drop>(
     rt: &R,
     matches: &ArgMatches,
+    is_on: bool,
+    output: &mut W,
 ) -> Result<(), Stop> {
     let names = called_inputs(rt.alloc(), matches.get_strs(FILE).unwrap_or(&[]))?;
-    ask_of(rt, matches, names.as_slice())
+    ask_of(rt, matches, is_on, names.as_slice(), output)
 }

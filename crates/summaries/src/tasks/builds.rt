@@ -2,18 +2,20 @@
 ghost use Rattle.std.specs.Prelude.{IfOk};
 ghost use Rattle.summaries_engine.specs.Sizes.{IsEmpty};
 
-use super::write;
-use crate::command_line::{BITS, BLOCKED, FILE, HASHES, ITEMS, RATE, WORKERS, ZERO};
+use super::{keys_of, write};
+use crate::command_line::{BITS, BLOCKED, FILE, HASHES, ITEMS, KEY, RATE, WORKERS, ZERO};
 use crate::key_files::{KeyFiles, called_inputs};
-use crate::rates::rate_of;
 use clap::ArgMatches;
-use fastbloom::{BlockedBloomFilter, FilterError, Rate, Shape};
+use fastbloom::{BlockedBloomFilter, BloomFilter, Rate};
+use program_parts::{key_of, rate_of};
 use std::alloc::Global;
+use std::cell::Cell;
+use std::io::Write;
 use std::rt::Files;
 use std::thread::Threads;
 use summaries_engine::{
-    AnyFilter, Stop, blocked_for, blocked_with_bits, build, build_blocked, shape_for, unsaid,
-    unshaped,
+    AnyFilter, Stop, blocked_for, blocked_with_bits, build, build_alone, build_blocked,
+    classic_for, classic_with_bits, unsaid, unshaped,
 };
 
 // How large a filter is to be.
@@ -53,25 +55,21 @@ fn size_of(matches: &ArgMatches) -> Result<Size, Stop> {
     }
 }
 
-// The shape of a Bloom filter of a size.
-fn shape_of(size: Size) -> Result<Shape, Stop> {
-    let made = match size {
-        Size::Keys(keys, rate) => shape_for(keys, rate),
-        Size::Bits(bits, hashes) => Shape::new(bits, hashes),
-    };
-    match made {
-        Ok(shape) => Ok(shape),
-        Err(error) => Err(unshaped(error)),
+// The seed of the key that the words ask for, or of the zero key.
+fn seed_of(matches: &ArgMatches) -> u128 {
+    match matches.get_str(KEY) {
+        Some(text) => key_of(text).unwrap_or(0),
+        None => 0,
     }
 }
 
-// The empty blocked filter of a size.
-fn empty_blocked(alloc: Global, size: Size) -> Result<BlockedBloomFilter, Stop>
+// The empty Bloom filter of a size.
+fn empty_classic(alloc: Global, size: Size, seed: &u128) -> Result<BloomFilter, Stop>
     ensures { IfOk result IsEmpty }
 {
     let made = match size {
-        Size::Keys(keys, rate) => blocked_for(alloc, keys, rate),
-        Size::Bits(bits, hashes) => blocked_with_bits(alloc, bits, hashes),
+        Size::Keys(keys, rate) => classic_for(alloc, keys, rate, seed),
+        Size::Bits(bits, hashes) => classic_with_bits(alloc, bits, hashes, seed),
     };
     match made {
         Ok(empty) => Ok(empty),
@@ -79,22 +77,50 @@ fn empty_blocked(alloc: Global, size: Size) -> Result<BlockedBloomFilter, Stop>
     }
 }
 
+// The empty blocked filter of a size.
+fn empty_blocked(alloc: Global, size: Size, seed: &u128) -> Result<BlockedBloomFilter, Stop>
+    ensures { IfOk result IsEmpty }
+{
+    let made = match size {
+        Size::Keys(keys, rate) => blocked_for(alloc, keys, rate, seed),
+        Size::Bits(bits, hashes) => blocked_with_bits(alloc, bits, hashes, seed),
+    };
+    match made {
+        Ok(empty) => Ok(empty),
+        Err(error) => Err(unshaped(error)),
+    }
+}
+
+// An empty Bloom filter, filled by this many workers with the keys of these inputs.
+fn fill_classic<const END: u8, R: Files + Input + Eprint + AllocGlobal + Threads>(
+    rt: &R,
+    workers: usize,
+    empty: BloomFilter,
+    files: &KeyFiles<R>,
+    names: &[&str],
+) -> Result<BloomFilter, Stop>
+    requires { IsEmpty empty }
+{
+    if workers > 1 {
+        build::<END, _, _>(rt, rt.alloc(), empty, workers, files, names)
+    } else {
+        build_alone::<END, _>(rt.alloc(), empty, files, names)
+    }
+}
+
 // The Bloom filter of the keys of these inputs.
-fn classic_of<R: Files + Input + AllocGlobal + Threads>(
+fn classic_of<R: Files + Input + Eprint + AllocGlobal + Threads>(
     rt: &R,
     matches: &ArgMatches,
+    files: &KeyFiles<R>,
     names: &[&str],
 ) -> Result<AnyFilter, Stop> {
-    let shape = shape_of(size_of(matches)?)?;
-    let Some(workers) = matches.get_one::<u16>(WORKERS) else {
-        return Err(unsaid(WORKERS));
-    };
-    let workers = usize::from(workers.max(1));
-    let files = KeyFiles { rt };
+    let empty = empty_classic(rt.alloc(), size_of(matches)?, &seed_of(matches))?;
+    let workers = usize::from(matches.get_one::<u16>(WORKERS).unwrap_or(1));
     let built = if matches.get_flag(ZERO) {
-        build::<0, _, _>(rt, rt.alloc(), shape, workers, &files, names)
+        fill_classic::<0, R>(rt, workers, empty, files, names)
     } else {
-        build::<10, _, _>(rt, rt.alloc(), shape, workers, &files, names)
+        fill_classic::<10, R>(rt, workers, empty, files, names)
     };
     match built {
         Ok(filter) => Ok(AnyFilter::Classic(filter)),
@@ -103,17 +129,17 @@ fn classic_of<R: Files + Input + AllocGlobal + Threads>(
 }
 
 // The blocked filter of the keys of these inputs, which one thread fills.
-fn blocked_of<R: Files + Input + AllocGlobal>(
+fn blocked_of<R: Files + Input + Eprint + AllocGlobal>(
     rt: &R,
     matches: &ArgMatches,
+    files: &KeyFiles<R>,
     names: &[&str],
 ) -> Result<AnyFilter, Stop> {
-    let empty = empty_blocked(rt.alloc(), size_of(matches)?)?;
-    let files = KeyFiles { rt };
+    let empty = empty_blocked(rt.alloc(), size_of(matches)?, &seed_of(matches))?;
     let built = if matches.get_flag(ZERO) {
-        build_blocked::<0, _>(rt.alloc(), empty, &files, names)
+        build_blocked::<0, _>(rt.alloc(), empty, files, names)
     } else {
-        build_blocked::<10, _>(rt.alloc(), empty, &files, names)
+        build_blocked::<10, _>(rt.alloc(), empty, files, names)
     };
     match built {
         Ok(filter) => Ok(AnyFilter::Blocked(filter)),
@@ -122,24 +148,30 @@ fn blocked_of<R: Files + Input + AllocGlobal>(
 }
 
 // Builds the filter of the keys of these inputs, and writes it.
-fn build_of<R: Files + Input + Print + AllocGlobal + Threads>(
+fn build_of<R: Files + Input + Eprint + AllocGlobal + Threads, W: Write>(
     rt: &R,
     matches: &ArgMatches,
+    is_on: bool,
     names: &[&str],
+    output: &mut W,
 ) -> Result<(), Stop> {
+    let keys = Cell::new(0);
+    let files = keys_of(rt, matches, is_on, &keys);
     let filter = if matches.get_flag(BLOCKED) {
-        blocked_of(rt, matches, names)?
+        blocked_of(rt, matches, &files, names)?
     } else {
-        classic_of(rt, matches, names)?
+        classic_of(rt, matches, &files, names)?
     };
-    write(rt, matches, &filter)
+    write(rt.alloc(), matches, &filter, output)
 }
 
 // Builds the filter of the keys of the inputs that the words name.
-pub(super) fn run_build<R: Files + Input + Print + AllocGlobal + Threads>(
+pub(super) fn run_build<R: Files + Input + Eprint + AllocGlobal + Threads, W: Write>(
     rt: &R,
     matches: &ArgMatches,
+    is_on: bool,
+    output: &mut W,
 ) -> Result<(), Stop> {
     let names = called_inputs(rt.alloc(), matches.get_strs(FILE).unwrap_or(&[]))?;
-    build_of(rt, matches, names.as_slice())
+    build_of(rt, matches, is_on, names.as_slice(), output)
 }

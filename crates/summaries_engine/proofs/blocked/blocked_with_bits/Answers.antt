@@ -1,8 +1,9 @@
-use Rattle.summaries_engine.proofs.BlockedLemmas.{empty-zeros}
+use Rattle.std.proofs.Common.{◌∙◌}
+use Rattle.summaries_engine.proofs.EmptyLemmas.{empty-zeros}
 use Rattle.summaries_engine.proofs.blocked.blocked_with_bits.Goals as goal
 
--- the builder has zero words and the zero key
+-- the builder has zero words and a key
 pub returns-clause-empty : goal.returns-clause-empty
 returns-clause-empty c =
-    empty-zeros _ _ _ c.in_ok-builder.ensures.words c.in_ok-builder.ensures.key
-    c.hashes.ensures.words c.hashes.ensures.hasher
+    empty-zeros _ c.seed.result _ (c.seed.ensures.words ∙ c.in_ok-builder.ensures.words)
+    c.seed.ensures.key c.hashes.ensures.words c.hashes.ensures.hasher

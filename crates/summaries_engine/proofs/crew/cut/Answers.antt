@@ -2,7 +2,7 @@ use Rattle.std.proofs.Common.{◌<◌, length, max, ap, ◌∙◌, arith}
 use Rattle.std.specs.Slice.Iter.{chunks_rest}
 use Rattle.summaries_engine.proofs.CutLemmas.{cut-few, size-fits}
 use Rattle.summaries_engine.proofs.CuttingLemmas.{cutting-more}
-use Rattle.summaries_engine.proofs.summary.cut.Goals as goal
+use Rattle.summaries_engine.proofs.crew.cut.Goals as goal
 
 -- one part more, of what was left
 pub parts-preserved : goal.parts-preserved

@@ -1,7 +1,7 @@
 use Rattle.std.proofs.Common.{◌≡◌}
 use Rattle.std.specs.Slice.Iter.{chunks_rest, chunks_size}
 use Rattle.summaries_engine.proofs.CuttingLemmas.{HasCut}
-use Rattle.summaries_engine.proofs.summary.cut.Given as goal
+use Rattle.summaries_engine.proofs.crew.cut.Given as goal
 
 -- the parts so far, and then what is left, are the hashes; none of the parts is empty
 abbrev pub invariant-parts : goal.invariant-parts

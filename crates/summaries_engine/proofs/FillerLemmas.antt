@@ -1,0 +1,177 @@
+-- Filters of either kind that take hashes, and the summaries that come of it.
+use Rattle.std.proofs.Common.{◌≡◌, ◌⊎◌, inl, inr, ℕ, ◌*◌, ◌/◌, ◌||◌, List, [], ◌∷◌, ◌++◌, map, refl, sym, subst, ◌∙◌, ap, append_assoc, append-nil}
+use Rattle.bloom_parts.specs.Keys.{HasKey, key_of}
+use Rattle.bloom_parts.specs.Sip.{sip}
+use Rattle.fastbloom.specs.Blocked.{InsertsAllInLines, num_lines_of}
+use Rattle.fastbloom.specs.Data.{DefaultFilter}
+use Rattle.fastbloom.specs.Fill.{FilledByInsertsLaw, IsFilledWith, hashes_of, words_of}
+use Rattle.fastbloom.specs.Fill as fill
+use Rattle.fastbloom.specs.Filter.{SameShape, Unites}
+use Rattle.fastbloom.specs.Many.{positions_of_all}
+use Rattle.fastbloom.specs.Replies.{InsertsAll}
+use Rattle.fastbloom.specs.declared.parallel.shape.Shape.{Shape}
+use Rattle.bloom_files.specs.declared.layout.Layout.TheVariants.{Lines}
+use Rattle.summaries_engine.specs.declared.kinds.AnyFilter.{AnyFilter}
+use Rattle.summaries_engine.specs.declared.kinds.AnyFilter.TheVariants.{Classic, Blocked}
+use Rattle.summaries_engine.specs.Answers.{IsKeyed}
+use Rattle.summaries_engine.specs.Fillers.{HasTaken, Takes}
+use Rattle.summaries_engine.specs.Inputs.{HashesInputs, Lies, SummarizesInputs}
+use Rattle.summaries_engine.specs.Kinds.{layout_of, parts_of}
+use Rattle.summaries_engine.specs.Sizes.{IsEmpty, IsShapeOf}
+use Rattle.summaries_engine.specs.Summaries.{IsFilled, joined}
+use Rattle.summaries_engine.proofs.FilledLemmas.{Builder, filled-from, filled-union, positions-append, positions-none}
+
+-- hashes were taken, and then further ones
+pub takes-more : (first old new : AnyFilter) (before hashes : List ℕ) → Takes first before old
+    → Takes old hashes new → Takes first (before ++ hashes) new
+takes-more first old new before hashes one two = record {
+  filled = λ shape earlier is.
+      subst (λ l. IsFilled shape l new) (append_assoc earlier before hashes)
+      (two.filled shape (earlier ++ before) (one.filled shape earlier is));
+  kind = one.kind ∙ two.kind;
+  hasher = two.hasher ∙ one.hasher;
+}
+
+-- a Bloom filter takes hashes by inserting them
+pub takes-inserted : FilledByInsertsLaw Builder → (old new : DefaultFilter) (hashes : List ℕ)
+    → InsertsAll old hashes new → Takes (Classic old) hashes (Classic new)
+takes-inserted law old new hashes did = record {
+  filled = λ shape before is. law shape old new before hashes is did;
+  kind = refl;
+  hasher = did.1.hasher;
+}
+
+-- so does a blocked filter
+pub takes-in-lines : (old new : DefaultFilter) (hashes : List ℕ)
+    → InsertsAllInLines old hashes new → Takes (Blocked old) hashes (Blocked new)
+takes-in-lines old new hashes did = record {
+  filled = λ shape before is.
+      let lines = words_of shape / 8 in
+      let k = hashes_of shape in record {
+        words = sym did.shape.words ∙ is.words;
+        num_hashes = sym did.shape.hashes ∙ is.num_hashes;
+        bits = λ p. did.bits p
+            ∙ ap (λ b. b || positions_of_all (num_lines_of old) old.hashes hashes p) (is.bits p)
+            ∙ ap (λ w. positions_of_all lines k before p
+            || positions_of_all (w / 8) old.hashes hashes p) is.words
+            ∙ ap (λ h. positions_of_all lines k before p || positions_of_all lines h hashes p)
+            is.num_hashes
+            ∙ sym (positions-append Lines shape before hashes p);
+      };
+  kind = refl;
+  hasher = did.hasher;
+}
+
+-- a filter that is filled in one shape is filled in each that has as many words and hashes
+filled-as : (shape other : Shape) (f : DefaultFilter) (hashes : List ℕ)
+    → words_of shape ≡ words_of other → hashes_of shape ≡ hashes_of other
+    → IsFilledWith shape hashes f → IsFilledWith other hashes f
+filled-as shape other f hashes words nums is = record {
+  words = is.words ∙ words;
+  num_hashes = is.num_hashes ∙ nums;
+  bits = λ p. is.bits p
+      ∙ ap (λ w. fill.positions_of_all (64 * w) (hashes_of shape) hashes p)
+      words
+      ∙ ap (λ k. fill.positions_of_all (64 * words_of other) k hashes p) nums;
+}
+
+-- a union with a filter that workers filled takes their hashes
+pub takes-united : (shape : Shape) (old part new : DefaultFilter) (hashes : List ℕ)
+    → IsShapeOf old shape → IsFilledWith shape hashes part → Unites old part new
+    → Takes (Classic old) hashes (Classic new)
+takes-united shape old part new hashes fits filled united = record {
+  filled = λ other before is.
+      filled-union other (Classic old) (Classic part) (Classic new) before hashes is
+      (filled-as shape other part hashes (fits.words ∙ is.words) (fits.hashes ∙ is.num_hashes)
+      filled)
+      refl (record { kind = refl; parts = united });
+  kind = refl;
+  hasher = united.hasher;
+}
+
+-- of two reasons of which one never holds the other does
+pub first-of : {A : Type 0} → A ⊎ ⊥ → A
+first-of (inl is) = is
+first-of (inr never) = absurd never
+
+-- a filter of a shape and one that is filled in it have one shape
+pub shape-joined : (shape : Shape) (f part : DefaultFilter) (hashes : List ℕ) → IsShapeOf f shape
+    → IsFilledWith shape hashes part → SameShape f part
+shape-joined shape f part hashes fits filled = record {
+  words = sym fits.words ∙ sym filled.words;
+  hashes = sym fits.hashes ∙ sym filled.num_hashes;
+}
+
+-- a union keeps the shape
+pub shape-united : (shape : Shape) (old part new : DefaultFilter) → IsShapeOf old shape
+    → Unites old part new → IsShapeOf new shape
+shape-united shape old part new fits united = record {
+  words = fits.words ∙ united.shape.words;
+  hashes = fits.hashes ∙ united.shape.hashes;
+}
+
+-- an empty filter is filled with no hash
+pub filled-empty : (shape : Shape) (f : AnyFilter) → IsEmpty (parts_of f)
+    → IsShapeOf (parts_of f) shape → IsFilled shape [] f
+filled-empty shape f is fits = filled-from shape [] f (record {
+  words = sym fits.words;
+  num_hashes = sym fits.hashes;
+  bits = λ p. is.clear p ∙ sym (positions-none (layout_of f) shape p);
+})
+
+module _ (empty made : AnyFilter) (hashes : List ℕ) (is : IsEmpty (parts_of empty))
+    (did : Takes empty hashes made) where
+  -- the hashers stay
+  pub keyed-made : IsKeyed made
+  keyed-made =
+      subst (λ hasher. HasKey hasher (key_of hasher).0 (key_of hasher).1) (sym did.hasher) is.keyed
+
+  -- exactly the positions of all keys are set
+  pub summary-made : (lies : Lies) (end : ℕ) (names : List (List ℕ))
+      → HashesInputs lies (key_of (parts_of empty).hasher) end names hashes → (shape : Shape)
+      → IsShapeOf (parts_of empty) shape → SummarizesInputs lies end names shape made
+  summary-made lies end names all shape fits = record {
+    parts = all.parts;
+    keys = all.keys;
+    summary =
+        subst (λ l. IsFilled shape l made)
+        (all.hashed
+        ∙ ap (λ hasher. map (sip (key_of hasher).0 (key_of hasher).1) (joined all.parts))
+        (sym did.hasher))
+        (did.filled shape [] (filled-empty shape empty is fits));
+  }
+
+module _ {F : Type 0} (took : F → List ℕ → F → Type 0) (first old new : F)
+    (waiting hashes : List ℕ) where
+  -- the hashes that waited were taken, too
+  pub taken-given : ((start : F) (before : List ℕ) → took start before old
+      → took start (before ++ waiting) new) → HasTaken took first old waiting hashes
+      → HasTaken took first new [] hashes
+  taken-given takes has = record {
+    earlier = has.earlier ++ waiting;
+    taken = takes first has.earlier has.taken;
+    are = has.are ∙ sym (append-nil (has.earlier ++ waiting));
+  }
+
+  -- a hash more waits
+  pub taken-pushed : (hash : ℕ) (more : List ℕ) → more ≡ waiting ++ hash ∷ []
+      → HasTaken took first old waiting hashes
+      → HasTaken took first old more (hashes ++ hash ∷ [])
+  taken-pushed hash more pushed has = record {
+    earlier = has.earlier;
+    taken = has.taken;
+    are =
+        ap (λ l. l ++ hash ∷ []) has.are ∙ append_assoc has.earlier waiting (hash ∷ [])
+        ∙ ap (λ l. has.earlier ++ l) (sym pushed);
+  }
+
+-- none was taken yet
+pub taken-none : {F : Type 0} (took : F → List ℕ → F → Type 0) → ((f : F) → took f [] f)
+    → (first : F) → HasTaken took first first [] []
+taken-none took none first = record { earlier = []; taken = none first; are = refl }
+
+-- where none waits any more, all hashes were taken
+pub taken-all : {F : Type 0} (took : F → List ℕ → F → Type 0) (first now : F) (hashes : List ℕ)
+    → HasTaken took first now [] hashes → took first hashes now
+taken-all took first now hashes has =
+    subst (λ l. took first l now) (sym (has.are ∙ append-nil has.earlier)) has.taken

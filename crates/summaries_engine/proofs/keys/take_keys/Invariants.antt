@@ -1,0 +1,9 @@
+use Rattle.summaries_engine.proofs.KeyLemmas.{IsTaking}
+use Rattle.summaries_engine.proofs.keys.take_keys.Given as goal
+
+-- the keys so far were taken
+abbrev pub invariant-keys : goal.invariant-keys
+invariant-keys g l =
+    IsTaking g.F.Filler.took l.fn.key g.row.END (g.I.Read.remaining l.fn.input) l.lines
+    (g.I.Read.remaining l.input) l.number l.fn.filler l.filler l.fn.waiting.items l.waiting.items
+    × g.F.Filler.ready l.filler
