@@ -237,9 +237,13 @@ static void try_refused_lines(fastbloom_shared bad) {
 /* A call that refuses does nothing: each refusal of each call. */
 static void try_refused(void) {
     const size_t counts[] = {0, (size_t)1 << 58, SIZE_MAX};
-    const uint64_t hashes[65] = {1, 2, 3, 4, 5};
+    uint64_t hashes[65];
     fastbloom_shared all = {own, ROOM}, fewer = {target, ROOM - 1}, none = {NULL, 0};
     for (uint64_t i = 0; i < ROOM; i++) own[i] = hash_of(i), target[i] = hash_of(ROOM + i);
+    for (uint64_t i = 0; i < 65; i++) hashes[i] = hash_of(33 + i);
+    /* The first one's first position is clear, so an insert by a call that refuses shows. */
+    wants("its first bit", 0, fastbloom_contains_hash(own, ROOM, 1, *hashes));
+    wants("its first bit in a line", 0, fastbloom_blocked_contains_hash(own, ROOM, 1, *hashes));
     try_refused_words(none);
     try_refused_lines(none);
     for (size_t i = 0; i < sizeof counts / sizeof *counts; i++) {
