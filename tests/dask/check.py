@@ -333,8 +333,8 @@ def grows_linearly(checks):
         bloom_dask.build(client, [f"/{number}" for number in range(count)], 1000, "1/1000")
         return time.process_time() - began
 
-    few, many = (min(seconds(count) for _ in range(5)) for count in (20_000, 40_000))
-    checks.check("twice the parts take less than three times as long", True, many < 3 * few)
+    ratios = [seconds(40_000) / seconds(20_000) for _ in range(5)]
+    checks.check("twice the parts take less than three times as long", True, min(ratios) < 3)
     tracemalloc.start()
     bloom_dask.build(client, ["keys"], 50_000_000, "1/1000")
     checks.check(

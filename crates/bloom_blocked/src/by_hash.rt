@@ -1,7 +1,6 @@
 //! Calls by hash over words that lie anywhere. Eight words are a line.
 ghost use Rattle.std.specs.Prelude.{◌≡◌, ℕ, ◌+◌, ◌*◌, ◌/◌, ◌≤◌, ◌||◌, length};
 ghost use Rattle.bloom_parts.specs.Content.{content};
-ghost use Rattle.bloom_parts.specs.Places.{are_in};
 ghost use Rattle.bloom_blocked.specs.Lines.{line_of, inner_of, line_positions, are_in_line};
 
 use bloom_parts::hasher::MULTIPLIER;
@@ -44,20 +43,6 @@ pub fn insert_hash(words: &mut [u64], num_hashes: u32, hash: u64) -> bool
     insert_in_few_words(&mut words[at..at + LINE], num_hashes, inner(hash))
 }
 
-// Whether all positions of a hash are set in a line. Seven hashes, for which ten bits an item ask,
-// have code of their own, in which the compiler knows their number: in the lines of 10^6 keys a hit
-// takes 10.7 so, and else 13.6.
-#[inline(always)]
-fn are_set_in(line: &[u64], num_hashes: u32, hash: u64) -> bool
-    requires { 1 ≤ length line.now }
-    ensures { result ≡ are_in (64 * length line.now) num_hashes hash (content line.now) }
-{
-    if num_hashes == 7 {
-        return contains_in_few_words(line, 7, hash);
-    }
-    contains_in_few_words(line, num_hashes, hash)
-}
-
 /// Whether all positions of a hash are set. True may be a false positive.
 #[inline(always)]
 pub fn contains_hash(words: &[u64], num_hashes: u32, hash: u64) -> bool
@@ -65,5 +50,5 @@ pub fn contains_hash(words: &[u64], num_hashes: u32, hash: u64) -> bool
     ensures { result ≡ are_in_line (length words.now / 8) num_hashes hash (content words.now) }
 {
     let at = line_start(words.len(), hash);
-    are_set_in(&words[at..at + LINE], num_hashes, inner(hash))
+    contains_in_few_words(&words[at..at + LINE], num_hashes, inner(hash))
 }
