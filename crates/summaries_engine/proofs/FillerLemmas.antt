@@ -4,9 +4,7 @@ use Rattle.bloom_parts.specs.Keys.{HasKey, key_of}
 use Rattle.bloom_parts.specs.Sip.{sip}
 use Rattle.fastbloom.specs.Blocked.{InsertsAllInLines, num_lines_of}
 use Rattle.fastbloom.specs.Data.{DefaultFilter}
-use Rattle.fastbloom.specs.Fill.{FilledByInsertsLaw, IsFilledWith, hashes_of, words_of}
-use Rattle.fastbloom.specs.Fill as fill
-use Rattle.fastbloom.specs.Filter.{SameShape, Unites}
+use Rattle.fastbloom.specs.Fill.{FilledByInsertsLaw, hashes_of, words_of}
 use Rattle.fastbloom.specs.Many.{positions_of_all}
 use Rattle.fastbloom.specs.Replies.{InsertsAll}
 use Rattle.fastbloom.specs.declared.parallel.shape.Shape.{Shape}
@@ -19,7 +17,7 @@ use Rattle.summaries_engine.specs.Inputs.{HashesInputs, Lies, SummarizesInputs}
 use Rattle.summaries_engine.specs.Kinds.{layout_of, parts_of}
 use Rattle.summaries_engine.specs.Sizes.{IsEmpty, IsShapeOf}
 use Rattle.summaries_engine.specs.Summaries.{IsFilled, joined}
-use Rattle.summaries_engine.proofs.FilledLemmas.{Builder, filled-from, filled-union, positions-append, positions-none}
+use Rattle.summaries_engine.proofs.FilledLemmas.{Builder, filled-from, positions-append, positions-none}
 
 -- hashes were taken, and then further ones
 pub takes-more : (first old new : AnyFilter) (before hashes : List ℕ) → Takes first before old
@@ -62,53 +60,10 @@ takes-in-lines old new hashes did = record {
   hasher = did.hasher;
 }
 
--- a filter that is filled in one shape is filled in each that has as many words and hashes
-filled-as : (shape other : Shape) (f : DefaultFilter) (hashes : List ℕ)
-    → words_of shape ≡ words_of other → hashes_of shape ≡ hashes_of other
-    → IsFilledWith shape hashes f → IsFilledWith other hashes f
-filled-as shape other f hashes words nums is = record {
-  words = is.words ∙ words;
-  num_hashes = is.num_hashes ∙ nums;
-  bits = λ p. is.bits p
-      ∙ ap (λ w. fill.positions_of_all (64 * w) (hashes_of shape) hashes p)
-      words
-      ∙ ap (λ k. fill.positions_of_all (64 * words_of other) k hashes p) nums;
-}
-
--- a union with a filter that workers filled takes their hashes
-pub takes-united : (shape : Shape) (old part new : DefaultFilter) (hashes : List ℕ)
-    → IsShapeOf old shape → IsFilledWith shape hashes part → Unites old part new
-    → Takes (Classic old) hashes (Classic new)
-takes-united shape old part new hashes fits filled united = record {
-  filled = λ other before is.
-      filled-union other (Classic old) (Classic part) (Classic new) before hashes is
-      (filled-as shape other part hashes (fits.words ∙ is.words) (fits.hashes ∙ is.num_hashes)
-      filled)
-      refl (record { kind = refl; parts = united });
-  kind = refl;
-  hasher = united.hasher;
-}
-
 -- of two reasons of which one never holds the other does
 pub first-of : {A : Type 0} → A ⊎ ⊥ → A
 first-of (inl is) = is
 first-of (inr never) = absurd never
-
--- a filter of a shape and one that is filled in it have one shape
-pub shape-joined : (shape : Shape) (f part : DefaultFilter) (hashes : List ℕ) → IsShapeOf f shape
-    → IsFilledWith shape hashes part → SameShape f part
-shape-joined shape f part hashes fits filled = record {
-  words = sym fits.words ∙ sym filled.words;
-  hashes = sym fits.hashes ∙ sym filled.num_hashes;
-}
-
--- a union keeps the shape
-pub shape-united : (shape : Shape) (old part new : DefaultFilter) → IsShapeOf old shape
-    → Unites old part new → IsShapeOf new shape
-shape-united shape old part new fits united = record {
-  words = fits.words ∙ united.shape.words;
-  hashes = fits.hashes ∙ united.shape.hashes;
-}
 
 -- an empty filter is filled with no hash
 pub filled-empty : (shape : Shape) (f : AnyFilter) → IsEmpty (parts_of f)

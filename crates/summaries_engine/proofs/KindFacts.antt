@@ -4,11 +4,10 @@ use Rattle.std.specs.Fmt.Cut.{EndsInDots}
 use Rattle.std.specs.declared.io.ErrorKind.TheVariants as kind
 use Rattle.anyhow.specs.Error.{HasMessage, error_message}
 use Rattle.anyhow.specs.declared.error.Error.{Error}
-use Rattle.bloom_parts.specs.declared.error.FilterError.TheVariants as filter_error
 use Rattle.bloom_files.specs.declared.error.FileError.TheVariants as file_error
 use Rattle.summaries_engine.specs.declared.stop.Stop.TheVariants.{Memory, Worker, Input, Bad, Output}
 use Rattle.summaries_engine.specs.Loaded.{IsReportedOf, IsReportedOfText}
-use Rattle.summaries_engine.specs.Stops.{IsUnfilled, IsUnput, IsUnreadAs, SaysOver}
+use Rattle.summaries_engine.specs.Stops.{IsUnput, IsUnreadAs, SaysOver}
 use Rattle.summaries_engine.proofs.StopFacts.{says-other}
 
 -- a read for which there was no memory
@@ -18,17 +17,6 @@ kind-memory = record { memory = λ is. tt; other = λ no. absurd (no refl) }
 -- a broken pipe isn't reported as memory
 kind-pipe : IsUnreadAs kind.BrokenPipe (codes "k") Memory → ⊥
 kind-pipe told = told.other (λ is. cc)
-
--- a thread that can't be started
-unfilled-worker : IsUnfilled filter_error.Worker Worker
-unfilled-worker = record { worker = λ is. tt; memory = λ is. cc }
-
--- memory isn't reported as a thread, nor a thread as memory
-unfilled-memory : IsUnfilled filter_error.Memory Worker → ⊥
-unfilled-memory told = told.memory refl
-
-unfilled-thread : IsUnfilled filter_error.Worker Memory → ⊥
-unfilled-thread told = told.worker refl
 
 -- there was no memory for a text
 unput-memory : IsUnput Memory

@@ -4,8 +4,7 @@ mod BlockedFacts
 mod BothLemmas
 mod ComparingFacts
 mod ComparingLemmas
-mod CutLemmas
-mod CuttingLemmas
+mod CrewLemmas
 mod EmptyLemmas
 mod FilledLemmas
 mod FillerLemmas
@@ -23,7 +22,6 @@ mod NamingLemmas
 mod RefusalFacts
 mod RefusalLemmas
 mod SealLemmas
-mod ShapeLemmas
 mod ShardFacts
 mod ShardLemmas
 mod SizeFacts

@@ -1,5 +1,6 @@
 pub mod Answers
 pub mod Comparing
+pub mod Crews
 pub mod Facts
 pub mod Fillers
 pub mod Inputs

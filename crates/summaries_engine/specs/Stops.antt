@@ -7,8 +7,6 @@ use Rattle.anyhow.specs.Error.{IsContextOn, IsMadeOf}
 use Rattle.anyhow.specs.declared.error.Error.{Error}
 use Rattle.std.specs.declared.io.ErrorKind.{ErrorKind}
 use Rattle.std.specs.declared.io.ErrorKind.TheVariants.{OutOfMemory}
-use Rattle.bloom_parts.specs.declared.error.FilterError.{FilterError}
-use Rattle.bloom_parts.specs.declared.error.FilterError.TheVariants as filter_error
 use Rattle.lines.specs.Reading.{AreShort, IsReadFromBy, IsReadToLongBy}
 use Rattle.lines.specs.Writing.{AppendsPart}
 use Rattle.summaries_engine.specs.declared.answers.Wanted.{Wanted}
@@ -85,11 +83,6 @@ pub record IsUnreadAs (kind : ErrorKind) (name : List ℕ) (stop : Stop) : Type 
   pub memory : kind ≡ OutOfMemory → IsMemory stop
   pub other : (kind ≡ OutOfMemory → ⊥)
       → IsInput (SaysOver (name ++ codes ": it can't be read")) stop
-
--- what is reported where workers fill no filter: a thread that couldn't be started, or else memory
-pub record IsUnfilled (error : FilterError) (stop : Stop) : Type 0 where
-  pub worker : error ≡ filter_error.Worker → IsWorker stop
-  pub memory : error ≡ filter_error.Memory → IsMemory stop
 
 -- behind these keys memory was out, or a read failed, or the next key is too long, or no number is
 -- left for it

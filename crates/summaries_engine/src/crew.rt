@@ -1,68 +1,22 @@
-//! Workers that fill a Bloom filter, each with a part of the hashes and a filter of its own.
-ghost use Rattle.std.specs.Prelude.{◌≡◌, ◌<◌, ◌≤◌, ◌⊎◌, All, IfErr, IfOk, IsOkUnless, length, map};
-ghost use Rattle.std.specs.List.{concat};
-ghost use Rattle.fastbloom.specs.Fill.{IsFilledWith};
-ghost use Rattle.summaries_engine.specs.declared.kinds.AnyFilter.TheVariants.{Classic};
-ghost use Rattle.summaries_engine.specs.Fillers.{Takes, takes-none};
-ghost use Rattle.summaries_engine.specs.Sizes.{IsShapeOf};
-ghost use Rattle.summaries_engine.specs.Stops.{IsMemory, IsUnfilled, IsWorker};
+//! Workers that fill filters side by side, each with a part of the hashes and a filter of its own.
+ghost use Rattle.std.specs.Prelude.{◌≡◌, ◌<◌, ◌+◌, ℕ, List, [], ◌∷◌, IfOk, IsOkUnless, length};
+ghost use Rattle.fastbloom.specs.Data.{DefaultFilter};
+ghost use Rattle.fastbloom.specs.Replies.{InsertsAll};
+ghost use Rattle.summaries_engine.specs.Crews.{HoldMore, HoldTogether, InsertParts, holds-none};
+ghost use Rattle.summaries_engine.specs.Sizes.{IsEmpty};
 
 use crate::filler::Filler;
 use crate::stop::Stop;
-use fastbloom::{BloomFilter, FilterError, Gate, Shape, fill};
+use fastbloom::{BloomFilter, FilterError};
 use std::alloc::Global;
 use std::sync::Arc;
 use std::sync::atomic::{AtomicU64, Ordering};
-use std::thread::Threads;
+use std::thread::{Threads, join_mut};
 
-// The least number of hashes for which threads are started, but for the last ones.
-const LEAST: usize = 1 << 16;
-
-/// The hashes in parts: at most one for each worker, and none empty.
-///
-/// # Errors
-/// Out of memory.
-pub fn cut(alloc: Global, hashes: &[u64], workers: usize) -> Result<Vec<Vec<u64>>, FilterError>
-    requires { 0 < workers }
-    ensures whole { IfOk result
-        (λ parts. concat (map (λ part. part.items) parts.items) ≡ hashes.now) }
-    ensures few { IfOk result (λ parts. length parts.items ≤ workers) }
-    ensures some { IfOk result (λ parts. All (λ part. 0 < length part.items) parts.items) }
-    ensures refused { IsOkUnless result FilterError.Memory }
-{
-    let most = hashes.len().div_ceil(workers).max(1);
-    let mut parts = Vec::new(alloc);
-    'parts: for part in hashes.chunks(most) {
-        parts.push(part.to_vec(alloc)?)?;
-    }
-    Ok(parts)
-}
-
-// Why hashes make no filter.
-fn unfilled(error: FilterError) -> Stop
-    requires { (error ≡ FilterError.Memory) ⊎ (error ≡ FilterError.Worker) }
-    ensures { IsUnfilled error result }
-{
-    if error == FilterError::Worker {
-        Stop::Worker
-    } else {
-        Stop::Memory
-    }
-}
-
-/// The shape of a filter.
-pub(crate) fn shape_of(filter: &BloomFilter) -> Shape
-    ensures { IsShapeOf filter.now result }
-{
-    let Ok(shape) = Shape::new(filter.num_bits(), filter.num_hashes()) else {
-        unreachable!();
-    };
-    shape
-}
+// How many hashes a worker is given at once, but for the last ones.
+const EACH: usize = 1 << 16;
 
 /// Lets every worker through at once, and counts them.
-//
-// It is no parameter: a thread takes nothing whose bounds an `impl` assumes.
 #[derive(Drop)]
 pub struct Begun {
     count: AtomicU64,
@@ -80,81 +34,144 @@ impl Begun {
     pub fn count(&self) -> u64 {
         self.count.load(Ordering::SeqCst)
     }
-}
 
-impl Gate for Begun {
-    fn pass(&self, _worker: usize) {
+    // A worker begins.
+    fn pass(&self) {
         self.count.fetch_add(1, Ordering::SeqCst);
     }
 }
 
-/// A filter that workers fill. They begin whenever as many hashes wait as the filter has words, so
-/// what waits takes no more memory than the filter.
+// Gives each filter in turn a part of the hashes, of at most so many, and the last one all that are
+// left. A thread inserts each part but this last, or where none can be started, this thread does.
+#[cycle(parts)]
+fn insert_parts<R: Threads>(
+    rt: &R,
+    gate: &Begun,
+    most: usize,
+    hashes: &[u64],
+    filter: &mut BloomFilter,
+    others: &mut [BloomFilter],
+)
+    ensures { InsertParts (filter.old ∷ others.old) hashes.now (filter.new ∷ others.new) }
+{
+    if hashes.is_empty() {
+        return;
+    }
+    let Some((next, others)) = others.split_first_mut() else {
+        gate.pass();
+        filter.insert_hashes(hashes);
+        return;
+    };
+    let (part, rest) = hashes.split_at(most.min(hashes.len()));
+    join_mut(
+        rt,
+        &mut ||
+            ensures { InsertsAll filter.entry.now part.entry.now filter.exit.now }
+        {
+            gate.pass();
+            filter.insert_hashes(part)
+        },
+        &mut ||
+            ensures { InsertParts (next.entry.now ∷ others.entry.now) rest.entry.now
+                (next.exit.now ∷ others.exit.now) }
+        { insert_parts(rt, gate, most, rest, next, others) },
+    );
+}
+
+/// The filters that workers fill, one for each.
 #[derive(Drop)]
-pub struct Crew<'a, R> {
-    pub rt: &'a R,
-    pub alloc: Global,
-    pub gate: Arc<Begun, Global>,
-    /// The shape of the filter.
-    pub shape: Shape,
-    /// The most workers at once.
-    pub workers: usize,
-    pub filter: BloomFilter,
+pub(crate) struct Crew<'a, R> {
+    rt: &'a R,
+    gate: Arc<Begun, Global>,
+    filter: BloomFilter,
+    others: Vec<BloomFilter>,
 }
 
 impl<'a, R: Threads> Crew<'a, R> {
-    /// The filter, as it is.
-    pub fn into_filter(self) -> BloomFilter
-        ensures { result ≡ self.entry.filter }
+    /// An empty filter for each worker: this one and copies of it.
+    ///
+    /// # Errors
+    /// Out of memory.
+    pub(crate) fn new(
+        rt: &'a R,
+        alloc: Global,
+        gate: Arc<Begun, Global>,
+        empty: BloomFilter,
+        workers: usize,
+    ) -> Result<Self, FilterError>
+        requires some { 0 < workers }
+        requires empty { IsEmpty empty }
+        ensures workers { IfOk result (λ crew. 1 + length crew.others.items ≡ workers) }
+        ensures none { IfOk result (λ crew.
+            HoldTogether empty [] (crew.filter ∷ crew.others.items)) }
+        ensures refused { IsOkUnless result FilterError.Memory }
+    {
+        let mut others = Vec::new(alloc);
+        'others: for _ in 1..workers {
+            others.push(empty.try_clone(alloc)?)?;
+        }
+        Ok(Crew {
+            rt,
+            gate,
+            filter: empty,
+            others,
+        })
+    }
+
+    // Divides hashes among the filters.
+    fn insert(&mut self, hashes: &[u64])
+        ensures { InsertParts (self.old.filter ∷ self.old.others.items) hashes.now
+            (self.new.filter ∷ self.new.others.items) }
+    {
+        let most = hashes.len().div_ceil(self.others.len() + 1);
+        insert_parts(
+            self.rt,
+            &self.gate,
+            most,
+            hashes,
+            &mut self.filter,
+            &mut self.others,
+        );
+    }
+
+    /// The union of all filters.
+    pub(crate) fn into_filter(self) -> BloomFilter
+        requires { (first : DefaultFilter) × (hashes : List ℕ)
+            × HoldTogether first hashes (self.filter ∷ self.others.items) }
+        ensures { (first : DefaultFilter) (hashes : List ℕ)
+            → HoldTogether first hashes (self.entry.filter ∷ self.entry.others.items)
+            → HoldTogether first hashes (result ∷ []) }
     {
         let Crew {
             rt: _,
-            alloc: _,
             gate,
-            shape: _,
-            workers: _,
-            filter,
+            filter: mut whole,
+            others,
         } = self;
         drop(gate);
-        filter
-    }
-
-    // The filter of these hashes, under the zero key. Each part has a worker of its own.
-    fn filled(&self, hashes: &[u64]) -> Result<BloomFilter, Stop>
-        requires { 0 < self.now.workers }
-        ensures filled { IfOk result (IsFilledWith self.now.shape hashes.now) }
-        ensures refused { IfErr result (λ stop. IsMemory stop ⊎ IsWorker stop) }
-    {
-        let Ok(gate) = Arc::try_clone(&self.gate) else {
-            return Err(Stop::Memory);
-        };
-        let Ok(parts) = cut(self.alloc, hashes, self.workers) else {
-            return Err(Stop::Memory);
-        };
-        prove!(parts.len() <= self.workers);
-        match fill(self.rt, self.alloc, gate, self.shape, parts) {
-            Ok(filter) => Ok(filter),
-            Err(error) => Err(unfilled(error)),
+        'others: for other in others {
+            whole.union(&other);
         }
+        whole
     }
 }
 
 impl<'a, R: Threads> Filler for Crew<'a, R> {
-    ghost ready = { λ crew. (0 < crew.workers) × IsShapeOf crew.filter crew.shape };
+    ghost ready = { λ _. Unit {0} };
 
-    ghost took = { λ old hashes new. Takes (Classic old.filter) hashes (Classic new.filter) };
+    ghost took = { λ old hashes new.
+        HoldMore (old.filter ∷ old.others.items) hashes (new.filter ∷ new.others.items) };
 
-    ghost refuses = { λ stop. IsMemory stop ⊎ IsWorker stop };
+    ghost refuses = { λ _. ⊥ };
 
     fn most(&self) -> usize {
-        self.filter.as_slice().len().max(LEAST)
+        EACH.saturating_mul(self.others.len() + 1)
     }
 
     fn take(&mut self, hashes: &[u64]) -> Result<(), Stop> {
-        let part = self.filled(hashes)?;
-        self.filter.union(&part);
+        self.insert(hashes);
         Ok(())
     }
 
-    ghost none = { λ crew. takes-none (Classic crew.filter) };
+    ghost none = { λ crew. holds-none (crew.filter ∷ crew.others.items) };
 }

@@ -37,7 +37,7 @@ mod unions;
 pub use answers::{Wanted, ask};
 pub use blocked::{blocked_for, blocked_with_bits, build_blocked};
 pub use comparing::{compare_named, compared, compared_blocked};
-pub use crew::{Begun, Crew, cut};
+pub use crew::Begun;
 pub use facts::{blocked_facts_of, facts_of};
 pub use filler::Filler;
 pub use form::{Form, put, put_file};

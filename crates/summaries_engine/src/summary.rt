@@ -6,7 +6,7 @@ ghost use Rattle.summaries_engine.specs.Answers.{IsKeyed};
 ghost use Rattle.summaries_engine.specs.Inputs.{StopsBuilding, StopsHashes, SummarizesInputs};
 ghost use Rattle.summaries_engine.specs.Sizes.{IsEmpty, IsShapeOf};
 
-use crate::crew::{Begun, Crew, shape_of};
+use crate::crew::{Begun, Crew};
 use crate::inputs::Inputs;
 use crate::keys::filled_from;
 use crate::stop::Stop;
@@ -40,12 +40,13 @@ pub fn build_alone<const END: u8, S: Inputs>(
     filled_from::<END, BloomFilter, S>(alloc, key, empty, inputs, names)
 }
 
-/// The same, where at most this many workers fill the filter. Each has a part of the keys, which
-/// `cut` gives it, and a filter of its own. They begin anew whenever as many hashes wait as the
-/// filter has words.
+/// The same, where at most this many workers fill the filter. Each has a filter of its own, into
+/// which it inserts a part of the keys, and these filters are united at the end. The workers begin
+/// anew at each 2^16 keys for each of them. Where no thread can be started, one does the work of
+/// more workers.
 ///
 /// # Errors
-/// As `build_alone`, and where a thread can't be started.
+/// As `build_alone`.
 pub fn build<const END: u8, R: Threads, S: Inputs>(
     rt: &R,
     alloc: Global,
@@ -96,13 +97,8 @@ pub fn build_through<const END: u8, R: Threads, S: Inputs>(
         (map (λ name. name.now) names.now)) }
 {
     let key = empty.hasher().key();
-    let crew = Crew {
-        rt,
-        alloc,
-        gate,
-        shape: shape_of(&empty),
-        workers,
-        filter: empty,
+    let Ok(crew) = Crew::new(rt, alloc, gate, empty, workers) else {
+        return Err(Stop::Memory);
     };
     match filled_from::<END, Crew<'_, R>, S>(alloc, key, crew, inputs, names) {
         Ok(crew) => Ok(crew.into_filter()),

@@ -93,7 +93,7 @@ const BUILD: &'static [Row] = &[
     (
         WORKERS,
         Kind::Option("N", &["1"], ValueParser::Signed(1, 1024)),
-        "Threads that may fill the filter: one takes its memory, N take N + 4 times that",
+        "Threads that may fill the filter: N take N times its memory",
         &[],
         &[],
     ),

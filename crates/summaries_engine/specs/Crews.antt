@@ -1,0 +1,44 @@
+-- Filters that take hashes side by side, each a part of them. This project's own.
+use Rattle.std.specs.Prelude.{◌≡◌, ℕ, Bool, List, [], ◌∷◌, ◌++◌, All}
+use Rattle.std.proofs.Common.{append-nil, subst, sym}
+use Rattle.std.specs.List.{list_any}
+use Rattle.bloom_parts.specs.Content.{content}
+use Rattle.fastbloom.specs.Data.{DefaultFilter}
+use Rattle.fastbloom.specs.Fill.{positions_of_all}
+use Rattle.fastbloom.specs.Filter.{SameShape, num_bits_of}
+use Rattle.fastbloom.specs.Replies.{InsertsAll}
+
+-- each filter inserted a part of the hashes, in order
+abbrev pub InsertParts : List DefaultFilter → List ℕ → List DefaultFilter → Type 0
+InsertParts [] hashes [] = hashes ≡ []
+InsertParts [] hashes (new ∷ after) = ⊥
+InsertParts (old ∷ before) hashes [] = ⊥
+InsertParts (old ∷ before) hashes (new ∷ after) = (part : List ℕ) × (rest : List ℕ)
+    × (hashes ≡ part ++ rest) × InsertsAll old part new × InsertParts before rest after
+
+-- a filter has the shape and the hasher of another
+pub record IsLike (first f : DefaultFilter) : Type 0 where
+  pub shape : SameShape first f
+  pub hasher : f.hasher ≡ first.hasher
+
+-- whether a position is set in one of the filters
+abbrev pub one_has : List DefaultFilter → ℕ → Bool
+one_has filters p = list_any (λ f. content f.words p) filters
+
+-- the filters have the shape and the hasher of the first, and exactly the positions of these hashes
+-- are set in one of them or another
+pub record HoldTogether (first : DefaultFilter) (hashes : List ℕ) (filters : List DefaultFilter)
+    : Type 0 where
+  pub alike : All (IsLike first) filters
+  pub bits : (p : ℕ) → one_has filters p
+      ≡ positions_of_all (num_bits_of first) first.hashes hashes p
+
+-- whatever hashes the old filters hold together, the new ones hold these besides
+abbrev pub HoldMore : List DefaultFilter → List ℕ → List DefaultFilter → Type 0
+HoldMore old hashes new = (first : DefaultFilter) (before : List ℕ)
+    → HoldTogether first before old → HoldTogether first (before ++ hashes) new
+
+-- no hash was taken
+pub holds-none : (filters : List DefaultFilter) → HoldMore filters [] filters
+holds-none filters first before held =
+    subst (λ l. HoldTogether first l filters) (sym (append-nil before)) held
