@@ -32,7 +32,6 @@ pub fn tell_output<R: Eprint>(rt: &R, name: &str) -> u8 {
 pub fn tell_stop<R: Eprint>(rt: &R, stop: Stop) -> u8 {
     let status = match &stop {
         Stop::Memory => NO_ROOM,
-        Stop::Worker => NO_ROOM,
         Stop::Input(_) => FAILED,
         Stop::Bad(_) => BAD,
         Stop::Output(_) => FAILED,

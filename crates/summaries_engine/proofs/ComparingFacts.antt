@@ -1,5 +1,5 @@
 -- What is reported about two filters: cases that hold, and near ones that don't.
-use Rattle.std.proofs.Common.{◌≡◌, ◌^◌, ℕ, inl, inr, List, [], ◌∷◌, ◌++◌, codes, get_or, refl, sym, ap, ◌∙◌, lit≤, arith}
+use Rattle.std.proofs.Common.{◌≡◌, ◌^◌, ℕ, inl, List, [], ◌∷◌, ◌++◌, codes, get_or, refl, sym, ap, ◌∙◌, lit≤, arith}
 use Rattle.std.specs.Fmt.{char_count, digits, padded_integral}
 use Rattle.bloom_parts.specs.Alike.{EstimatesEach, IsCommon, IsPartOf}
 use Rattle.bloom_parts.specs.Content.{content}
@@ -7,7 +7,7 @@ use Rattle.bloom_parts.specs.Counts.{count_on}
 use Rattle.bloom_parts.specs.Keys.{key_of}
 use Rattle.bloom_parts.specs.declared.math.bracket.Bracket.{Bracket}
 use Rattle.bloom_parts.specs.declared.math.estimate.Estimate.{Estimate}
-use Rattle.summaries_engine.specs.declared.stop.Stop.TheVariants.{Memory, Worker}
+use Rattle.summaries_engine.specs.declared.stop.Stop.TheVariants.{Memory}
 use Rattle.summaries_engine.specs.declared.kinds.AnyFilter.TheVariants.{Classic, Blocked}
 use Rattle.summaries_engine.specs.Comparing.{ComparesNamed, StopsComparing, TellsBoth, TellsTwo, bits_text, compared_text, least_share, likeness_text, most_share, ones_of_both}
 use Rattle.summaries_engine.specs.Kinds.{parts_of}
@@ -134,12 +134,6 @@ compares-shapes text is =
     let wrong : ◌≡◌ {A = List ℕ} (2 ∷ []) (3 ∷ []) =
     is.is_first ∙ ap (λ n. n ∷ []) is.fits.shape.hashes ∙ sym is.is_second in cc
 
--- memory may be out, and no worker is asked for
+-- memory may be out
 stops-memory : StopsComparing counted (λ name stop. ⊥) (2 ∷ []) (3 ∷ []) Memory
 stops-memory = inl tt
-
-stops-worker : StopsComparing counted (λ name stop. ⊥) (2 ∷ []) (3 ∷ []) Worker → ⊥
-stops-worker (inl memory) = memory
-stops-worker (inr (inl none)) = none.1
-stops-worker (inr (inr (inl unloaded))) = unloaded.failed
-stops-worker (inr (inr (inr misfit))) = misfit.says

@@ -99,10 +99,10 @@ module _ (first : DefaultFilter) where
       )
 
   -- so they hold these hashes together besides those that they held
-  hold-more : (old new : List DefaultFilter) (before hashes : List ℕ)
+  parts-hold : (old new : List DefaultFilter) (before hashes : List ℕ)
       → HoldTogether first before old → InsertParts old hashes new
       → HoldTogether first (before ++ hashes) new
-  hold-more old new before hashes held did =
+  parts-hold old new before hashes held did =
       let set = parts-set old hashes new held.alike did in record {
         alike = set.0;
         bits = λ p. set.1 p ∙ ap (λ b. b || on hashes p) (held.bits p)
@@ -114,7 +114,7 @@ pub holds-more : (start old new : List DefaultFilter) (before hashes : List ℕ)
     → HoldMore start before old → InsertParts old hashes new → HoldMore start (before ++ hashes) new
 holds-more start old new before hashes took did first earlier held =
     subst (λ l. HoldTogether first l new) (append_assoc earlier before hashes)
-    (hold-more first old new (earlier ++ before) hashes (took first earlier held) did)
+    (parts-hold first old new (earlier ++ before) hashes (took first earlier held) did)
 
 module _ {first : DefaultFilter} {hashes : List ℕ} {whole other : DefaultFilter}
     {rest : List DefaultFilter} (held : HoldTogether first hashes (whole ∷ other ∷ rest)) where
@@ -148,9 +148,9 @@ module _ {first : DefaultFilter} {hashes : List ℕ} {whole other : DefaultFilte
 
 module _ (empty : DefaultFilter) (is : IsEmpty empty) where
   -- it and its copies hold no hash
-  pub hold-none : (copies : List DefaultFilter) → All (λ f. f ≡ empty) copies
+  pub copies-hold : (copies : List DefaultFilter) → All (λ f. f ≡ empty) copies
       → HoldTogether empty [] (empty ∷ copies)
-  hold-none copies equal =
+  copies-hold copies equal =
       let all = All-cons (λ f. f ≡ empty) empty copies refl equal in record {
         alike = All-weaker (λ f. f ≡ empty) (IsLike empty)
             (λ f copied. subst (IsLike empty) (sym copied)

@@ -1,14 +1,13 @@
 -- Why no summary of several inputs is made: cases that hold, and some that nearly do. The inputs
 -- "j" and "k" are there, and none of another name.
-use Rattle.std.proofs.Common.{◌≡◌, ℕ, List, [], ◌∷◌, codes, Option, Some, refl, sym, inl, inr}
+use Rattle.std.proofs.Common.{◌≡◌, ℕ, List, [], ◌∷◌, codes, Some, refl, sym, inl, inr}
 use Rattle.anyhow.specs.declared.error.Error.{Error}
 use Rattle.summaries_engine.specs.declared.answers.Wanted.TheVariants.{Found}
 use Rattle.summaries_engine.specs.declared.kinds.AnyFilter.{AnyFilter}
 use Rattle.summaries_engine.specs.declared.stop.Stop.{Stop}
-use Rattle.summaries_engine.specs.declared.stop.Stop.TheVariants.{Memory, Output, Worker}
+use Rattle.summaries_engine.specs.declared.stop.Stop.TheVariants.{Memory, Output}
 use Rattle.summaries_engine.specs.Answers.{wanted_text}
 use Rattle.summaries_engine.specs.Inputs.{StopsAsking, StopsBuilding, StopsHashes}
-use Rattle.summaries_engine.specs.Stops.{IsReasonAfter}
 use Rattle.summaries_engine.proofs.InputFacts.{at-none, both, two}
 use Rattle.summaries_engine.proofs.StopLemmas.{stops-none}
 
@@ -48,32 +47,13 @@ hashes-missing stop = record {
 hashes-nowhere : (stop : Stop) → StopsHashes two missing 10 [] stop → ⊥
 hashes-nowhere stop is = at-none _ is
 
--- within an input no worker is asked for
-hashes-worker : StopsHashes two (λ name stop. ⊥) 10 (codes "j" ∷ []) Worker → ⊥
-hashes-worker is = elim is.within [
-  | inl none ↦ none
-  | inr (read, lies, stop) ↦ by is.name read stop.keys stop.reason
-]
-  where
-    by : (name : List ℕ) (read : Option (List ℕ)) (keys : List (List ℕ))
-        → IsReasonAfter 10 name read keys Worker → ⊥
-    by name read keys (inl (inl memory)) = memory
-    by name read keys (inl (inr over)) = over
-    by name read keys (inr (inl long)) = long.1
-    by name read keys (inr (inr many)) = many.1
-
--- a filter isn't built where memory is out or a worker can't be started, and for no fault of an
--- output
+-- a filter isn't built where memory is out, and for no fault of an output
 builds-memory : StopsBuilding two missing 10 [] Memory
-builds-memory = inr (inl tt)
-
-builds-worker : StopsBuilding two missing 10 [] Worker
-builds-worker = inr (inr tt)
+builds-memory = inr tt
 
 builds-output : (said : Error) → StopsBuilding two missing 10 [] (Output said) → ⊥
 builds-output said (inl at_input) = at-none _ at_input
-builds-output said (inr (inl memory)) = memory
-builds-output said (inr (inr worker)) = worker
+builds-output said (inr memory) = memory
 
 module _ (f : AnyFilter) where
   -- memory may be out before the first key, where nothing was written yet

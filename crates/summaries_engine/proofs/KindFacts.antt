@@ -5,7 +5,7 @@ use Rattle.std.specs.declared.io.ErrorKind.TheVariants as kind
 use Rattle.anyhow.specs.Error.{HasMessage, error_message}
 use Rattle.anyhow.specs.declared.error.Error.{Error}
 use Rattle.bloom_files.specs.declared.error.FileError.TheVariants as file_error
-use Rattle.summaries_engine.specs.declared.stop.Stop.TheVariants.{Memory, Worker, Input, Bad, Output}
+use Rattle.summaries_engine.specs.declared.stop.Stop.TheVariants.{Memory, Input, Bad, Output}
 use Rattle.summaries_engine.specs.Loaded.{IsReportedOf, IsReportedOfText}
 use Rattle.summaries_engine.specs.Stops.{IsUnput, IsUnreadAs, SaysOver}
 use Rattle.summaries_engine.proofs.StopFacts.{says-other}

@@ -11,7 +11,7 @@ use Rattle.bloom_files.specs.FileLayouts.{refusal_in}
 use Rattle.bloom_files.specs.FileRefusals.{number_at}
 use Rattle.lines.specs.Writing.{Begins}
 use Rattle.summaries_engine.specs.declared.form.Form.TheVariants.{Sealed, Unsealed, Json}
-use Rattle.summaries_engine.specs.declared.stop.Stop.TheVariants.{Memory, Worker, Input, Bad, Output}
+use Rattle.summaries_engine.specs.declared.stop.Stop.TheVariants.{Memory, Input, Bad, Output}
 use Rattle.summaries_engine.specs.Kinds.{IsFileOfKind, parts_of}
 use Rattle.summaries_engine.specs.Loaded.{HasHashesOf, HasManyHashes, HoldsNone, IsInForm, IsRightOf, IsRightWith, IsUnloaded, IsUnread, file_form, hashes_text, layout_given, mark_bytes}
 use Rattle.summaries_engine.proofs.StopFacts.{says-other}
@@ -117,13 +117,6 @@ module _ (said : Error) where
 -- memory was out
 unread-room : IsUnloaded (codes "a") 64 Memory
 unread-room = inl (inl tt)
-
--- no thread is started for a file
-unread-worker : IsUnloaded (codes "a") 64 Worker → ⊥
-unread-worker (inl (inl memory)) = memory
-unread-worker (inl (inr (inl failed))) = failed
-unread-worker (inl (inr (inr none))) = none
-unread-worker (inr many) = many
 
 -- a file with a wrong seal holds no filter
 holds-seal : (bytes : List ℕ) → refusal_in (layout_given bytes) bytes ≡ Some Seal → HoldsNone bytes

@@ -17,7 +17,6 @@ use Rattle.lines.specs.Writing.{Begins}
 use Rattle.summaries_engine.specs.declared.form.Form.{Form}
 use Rattle.summaries_engine.specs.declared.form.Form.TheVariants.{Json}
 use Rattle.summaries_engine.specs.declared.kinds.AnyFilter.{AnyFilter}
-use Rattle.summaries_engine.specs.declared.kinds.AnyFilter.TheVariants.{Classic, Blocked}
 use Rattle.summaries_engine.specs.Kinds.{IsFileOfKind, layout_of, parts_of}
 use Rattle.summaries_engine.specs.Loaded.{IsInForm, file_form, head_layout, layout_given, mark_bytes}
 

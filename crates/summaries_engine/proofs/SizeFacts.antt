@@ -1,6 +1,6 @@
 -- The filter for keys at a rate: a case that holds, and cases that nearly do. A thousand keys at
 -- one half take 1448 bits, so 23 words, and one hash suits these.
-use Rattle.std.proofs.Common.{◌≡◌, ℕ, length, ◌*◌, None, Some, refl, ap, subst, sym, ◌∙◌, arith}
+use Rattle.std.proofs.Common.{◌≡◌, ℕ, length, ◌*◌, None, Some, ap, subst, sym, ◌∙◌, arith}
 use Rattle.bloom_parts.specs.declared.error.FilterError.TheVariants.{Memory, SizeOverflow}
 use Rattle.bloom_parts.specs.declared.math.rate.Rate.{Rate}
 use Rattle.bloom_parts.specs.Rates.{num_of, den_of}

@@ -11,7 +11,7 @@ use Rattle.lines.specs.Lines.{lines_by}
 use Rattle.lines.specs.Reading.{AreShort, IsReadFromBy}
 use Rattle.summaries_engine.specs.declared.answers.Wanted.{Wanted}
 use Rattle.summaries_engine.specs.declared.stop.Stop.{Stop}
-use Rattle.summaries_engine.specs.declared.stop.Stop.TheVariants.{Memory, Worker, Input, Bad, Output}
+use Rattle.summaries_engine.specs.declared.stop.Stop.TheVariants.{Memory, Input, Bad, Output}
 use Rattle.summaries_engine.specs.Refusals.{too_long_text}
 use Rattle.summaries_engine.specs.Stops.{IsBad, IsMemory, IsOutput, IsReasonAfter, IsUnreadable, Says, SaysOver, StopsAfter, StopsAnswers, StopsHashing}
 use Rattle.summaries_engine.proofs.StopLemmas.{stops-none}
@@ -27,12 +27,9 @@ pub no-whole : EndsInDots 120 (codes "no") → ⊥
 no-whole ends =
     let byte : ◌≡◌ {A = ℕ} 110 46 = ap (λ t. get_or t 0 0) ends in absurd (omega (arith, byte))
 
--- memory is no worker, and no error that is said
+-- memory is no error that is said
 memory : IsMemory Memory
 memory = tt
-
-memory-worker : IsMemory Worker → ⊥
-memory-worker is = is
 
 memory-input : (said : Error) → IsMemory (Input said) → ⊥
 memory-input said is = is
@@ -123,20 +120,13 @@ failed-read end read keys said told reason = of reason
         says-other (codes "k: it can't be read") (codes "k: it has too many keys") said told many
         whole at.1.message
 
--- a write that failed is no reason, and no worker is
+-- a write that failed is no reason
 reason-output : (end : ℕ) (read : Option (List ℕ)) (keys : List (List ℕ)) (said : Error)
     → IsReasonAfter end (codes "k") read keys (Output said) → ⊥
 reason-output end read keys said (inl (inl memory)) = memory
 reason-output end read keys said (inl (inr over)) = over
 reason-output end read keys said (inr (inl at)) = at.1
 reason-output end read keys said (inr (inr at)) = at.1
-
-reason-worker : (end : ℕ) (read : Option (List ℕ)) (keys : List (List ℕ))
-    → IsReasonAfter end (codes "k") read keys Worker → ⊥
-reason-worker end read keys (inl (inl memory)) = memory
-reason-worker end read keys (inl (inr over)) = over
-reason-worker end read keys (inr (inl at)) = at.1
-reason-worker end read keys (inr (inr at)) = at.1
 
 -- a read that failed names its input
 reason-name : (end : ℕ) (read : Option (List ℕ)) (keys : List (List ℕ)) (said : Error)

@@ -13,7 +13,7 @@ use Rattle.bloom_files.specs.FileLayouts.{IsReadIn, refusal_in}
 use Rattle.summaries_engine.specs.declared.form.Form.{Form}
 use Rattle.summaries_engine.specs.declared.kinds.AnyFilter.{AnyFilter}
 use Rattle.summaries_engine.specs.declared.stop.Stop.{Stop}
-use Rattle.summaries_engine.specs.declared.stop.Stop.TheVariants.{Memory, Worker, Input, Bad, Output}
+use Rattle.summaries_engine.specs.declared.stop.Stop.TheVariants.{Memory, Input, Bad, Output}
 use Rattle.summaries_engine.specs.Kinds.{parts_of}
 use Rattle.summaries_engine.specs.Loaded.{HasHashesOf, IsInForm, IsRightIn, IsRightOf, IsRightWith, IsReportedOf, IsUnread, hashes_text, head_layout, mark_bytes}
 use Rattle.summaries_engine.specs.Stops.{IsBad, IsInput, IsMemory, IsUnreadAs}
@@ -23,7 +23,6 @@ use Rattle.summaries_engine.proofs.LoadedLemmas.{HasRead, layout-first, no-mark}
 pub elsewhere : (P : Error → Type 0) (stop : Stop) → IsMemory stop ⊎ IsInput P stop
     → IsBad (λ said. Unit {0}) stop → ⊥
 elsewhere P Memory told bad = bad
-elsewhere P Worker told bad = bad
 elsewhere P (Input said) told bad = bad
 elsewhere P (Bad said) (inl memory) bad = memory
 elsewhere P (Bad said) (inr input) bad = input
@@ -33,7 +32,6 @@ elsewhere P (Output said) told bad = bad
 unread-elsewhere : (kind : ErrorKind) (name : List ℕ) (stop : Stop) → IsUnreadAs kind name stop
     → IsBad (λ said. Unit {0}) stop → ⊥
 unread-elsewhere kind name Memory told bad = bad
-unread-elsewhere kind name Worker told bad = bad
 unread-elsewhere kind name (Input said) told bad = bad
 unread-elsewhere kind name (Bad said) told bad = told.other told.memory
 unread-elsewhere kind name (Output said) told bad = bad
@@ -138,7 +136,6 @@ many-right (Some bytes) name most stop filter form is many says = inr (of stop s
         → IsBad (HasMessage (Some (hashes_text name (parts_of filter).hashes most))) stop
         → IsBad (HasHashesOf bytes name most) stop
     of Memory says = says
-    of Worker says = says
     of (Input said) says = says
     of (Bad said) says = record {
       filter = filter;

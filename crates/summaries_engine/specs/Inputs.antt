@@ -9,7 +9,7 @@ use Rattle.summaries_engine.specs.declared.answers.Wanted.{Wanted}
 use Rattle.summaries_engine.specs.declared.kinds.AnyFilter.{AnyFilter}
 use Rattle.summaries_engine.specs.declared.stop.Stop.{Stop}
 use Rattle.summaries_engine.specs.Answers.{wanted_text}
-use Rattle.summaries_engine.specs.Stops.{IsMemory, IsWorker, StopsAnswers, StopsHashing}
+use Rattle.summaries_engine.specs.Stops.{IsMemory, StopsAnswers, StopsHashing}
 use Rattle.summaries_engine.specs.Summaries.{IsSummaryOf, joined}
 
 -- what lies under which names: Some of the bytes, or None where that isn't reported
@@ -74,10 +74,10 @@ abbrev pub StopsHashes : Lies → (List ℕ → Stop → Type 0) → ℕ → Lis
 StopsHashes lies fails end names stop =
     StopsAt lies end names (λ keys name. StopsInput lies fails end name stop)
 
--- there is no filter of all keys: not all were hashed, or memory or a worker was refused
+-- there is no filter of all keys: not all were hashed, or memory was refused
 abbrev pub StopsBuilding : Lies → (List ℕ → Stop → Type 0) → ℕ → List (List ℕ) → Stop → Type 0
 StopsBuilding lies fails end names stop =
-    StopsHashes lies fails end names stop ⊎ IsMemory stop ⊎ IsWorker stop
+    StopsHashes lies fails end names stop ⊎ IsMemory stop
 
 -- an input can't be had, and the replies for the keys before it are written; or the run stopped
 -- within it

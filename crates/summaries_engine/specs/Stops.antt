@@ -12,7 +12,7 @@ use Rattle.lines.specs.Writing.{AppendsPart}
 use Rattle.summaries_engine.specs.declared.answers.Wanted.{Wanted}
 use Rattle.summaries_engine.specs.declared.kinds.AnyFilter.{AnyFilter}
 use Rattle.summaries_engine.specs.declared.stop.Stop.{Stop}
-use Rattle.summaries_engine.specs.declared.stop.Stop.TheVariants.{Memory, Worker, Input, Bad, Output}
+use Rattle.summaries_engine.specs.declared.stop.Stop.TheVariants.{Memory, Input, Bad, Output}
 use Rattle.summaries_engine.specs.Answers.{wanted_text}
 use Rattle.summaries_engine.specs.Refusals.{too_long_text}
 
@@ -27,23 +27,13 @@ SaysOver text said = IsContextOn (IsMadeOf None) (Some text) said
 -- memory was out
 abbrev pub IsMemory : Stop → Type 0
 IsMemory Memory = ⊤
-IsMemory Worker = ⊥
 IsMemory (Input said) = ⊥
 IsMemory (Bad said) = ⊥
 IsMemory (Output said) = ⊥
 
--- a thread couldn't be started
-abbrev pub IsWorker : Stop → Type 0
-IsWorker Memory = ⊥
-IsWorker Worker = ⊤
-IsWorker (Input said) = ⊥
-IsWorker (Bad said) = ⊥
-IsWorker (Output said) = ⊥
-
 -- an input wasn't had, or a read failed, and of what is said this holds
 abbrev pub IsInput : (Error → Type 0) → Stop → Type 0
 IsInput P Memory = ⊥
-IsInput P Worker = ⊥
 IsInput P (Input said) = P said
 IsInput P (Bad said) = ⊥
 IsInput P (Output said) = ⊥
@@ -51,7 +41,6 @@ IsInput P (Output said) = ⊥
 -- an input isn't what it should be, and of what is said this holds
 abbrev pub IsBad : (Error → Type 0) → Stop → Type 0
 IsBad P Memory = ⊥
-IsBad P Worker = ⊥
 IsBad P (Input said) = ⊥
 IsBad P (Bad said) = P said
 IsBad P (Output said) = ⊥
@@ -59,7 +48,6 @@ IsBad P (Output said) = ⊥
 -- a write failed, and of what is said this holds
 abbrev pub IsOutput : (Error → Type 0) → Stop → Type 0
 IsOutput P Memory = ⊥
-IsOutput P Worker = ⊥
 IsOutput P (Input said) = ⊥
 IsOutput P (Bad said) = ⊥
 IsOutput P (Output said) = P said

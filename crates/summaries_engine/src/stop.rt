@@ -16,8 +16,6 @@ use std::{fmt, io};
 pub enum Stop {
     /// Out of memory.
     Memory,
-    /// A thread can't be started.
-    Worker,
     /// An input can't be had, or a read failed.
     Input(anyhow::Error),
     /// An input isn't what it should be.
@@ -31,7 +29,6 @@ impl Display for Stop {
     fn fmt<W: fmt::Write>(&self, f: &mut fmt::Formatter<W>) -> fmt::Result {
         match self {
             Stop::Memory => f.write_str("out of memory"),
-            Stop::Worker => f.write_str("a thread can't be started"),
             Stop::Input(error) => write!(f, "{error:#}"),
             Stop::Bad(error) => write!(f, "{error:#}"),
             Stop::Output(error) => write!(f, "{error:#}"),

@@ -22,7 +22,7 @@ use summaries_engine::{
 // The filter of the keys of two inputs.
 fn built<R: Threads + AllocGlobal>(rt: &R, odd: &Odd) -> Result<AnyFilter, Stop> {
     let Ok(empty) = classic_with_bits(rt.alloc(), 64, 2, &0) else {
-        return Err(Stop::Worker);
+        return Err(Stop::Memory);
     };
     match build::<10, _, _>(rt, rt.alloc(), empty, 2, odd, &["first", "odd"]) {
         Ok(filter) => Ok(AnyFilter::Classic(filter)),

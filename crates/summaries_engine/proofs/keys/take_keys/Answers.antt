@@ -1,4 +1,4 @@
-use Rattle.std.proofs.Common.{inl, rules}
+use Rattle.std.proofs.Common.{inl}
 use Rattle.summaries_engine.proofs.KeyLemmas.{taking-end, taking-next, taking-none}
 use Rattle.summaries_engine.proofs.StopLemmas.{hashing-stops, why-long, why-read}
 use Rattle.summaries_engine.proofs.keys.take_keys.Goals as goal
