@@ -11,7 +11,7 @@ pub const DONE: u8 = 0;
 /// output.
 pub const BAD: u8 = 2;
 
-/// Out of memory, or a thread can't be started.
+/// Out of memory.
 pub const NO_ROOM: u8 = 3;
 
 /// A read or a write failed, or a file can't be opened.
