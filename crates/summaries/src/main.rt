@@ -41,7 +41,7 @@ fn print<R: Print + Eprint>(rt: &R, error: &Error) -> u8 {
 }
 
 // What words that were read ask for is done; the status.
-fn run_matched<R: Files + Input + Print + Eprint + AllocGlobal + Threads>(
+fn run_matched<R: Files + Input + Print + Eprint + AllocGlobal + Threads + Sync>(
     rt: &R,
     matches: &ArgMatches,
     is_on: bool,
@@ -53,7 +53,7 @@ fn run_matched<R: Files + Input + Print + Eprint + AllocGlobal + Threads>(
 }
 
 // What the words ask for is done; the status. A terminal is told how far the run is.
-fn run<R: Files + Input + Print + Eprint + AllocGlobal + Threads>(
+fn run<R: Files + Input + Print + Eprint + AllocGlobal + Threads + Sync>(
     rt: &R,
     words: &[String],
     is_on: bool,

@@ -175,7 +175,7 @@ pub fn name_of_output<'a, R: Files>(rt: &R, matches: &ArgMatches<'a>) -> Option<
 }
 
 // Carries a task out that may write much, where its output is open.
-fn write_task<R: Files + Input + Eprint + AllocGlobal + Threads, W: Write + Drop>(
+fn write_task<R: Files + Input + Eprint + AllocGlobal + Threads + Sync, W: Write + Drop>(
     rt: &R,
     name: &str,
     matches: &ArgMatches,
@@ -192,7 +192,7 @@ fn write_task<R: Files + Input + Eprint + AllocGlobal + Threads, W: Write + Drop
 
 // Opens the output that the words ask for, and carries a task out. An output that is a file takes
 // its place if that ended well.
-fn run_with_output<R: Files + Input + Print + Eprint + AllocGlobal + Threads>(
+fn run_with_output<R: Files + Input + Print + Eprint + AllocGlobal + Threads + Sync>(
     rt: &R,
     name: &str,
     matches: &ArgMatches,
@@ -215,7 +215,7 @@ fn run_with_output<R: Files + Input + Print + Eprint + AllocGlobal + Threads>(
 }
 
 /// Does what the words ask for. A terminal is told how far the run is.
-pub fn run<R: Files + Input + Print + Eprint + AllocGlobal + Threads>(
+pub fn run<R: Files + Input + Print + Eprint + AllocGlobal + Threads + Sync>(
     rt: &R,
     matches: &ArgMatches,
     is_on: bool,

@@ -1,9 +1,12 @@
 -- Filters that hold the positions of hashes together.
-use Rattle.std.proofs.Common.{◌≡◌, ℕ, ◌*◌, Bool, true, false, ◌||◌, cond, List, [], ◌∷◌, ◌++◌, map, Some, None, unwrap_or, refl, sym, subst, ◌∙◌, ap, append_assoc}
+use Rattle.std.proofs.Common.{◌≡◌, ◌<◌, ◌≤◌, ℕ, suc, ◌*◌, Bool, true, false, ◌||◌, cond, List, [], ◌∷◌, ◌++◌, drop, length, map, min, take, Some, None, unwrap_or, refl, sym, subst, ◌∙◌, ap, append_assoc, arith}
 use Rattle.std.proofs.Math.Bool.{or_assoc, or_comm}
+use Rattle.std.proofs.Math.Nat.{zero-mul}
+use Rattle.std.proofs.lemmas.List.{drop-drop, drop_min, length-drop, nil_from_length, take-append-drop, take_min}
 use Rattle.std.proofs.lemmas.List.Elements.{All-cons, All-head, All-tail, All-weaker}
 use Rattle.std.proofs.lemmas.List.Folds.{list_any_none}
-use Rattle.std.specs.Prelude.{All}
+use Rattle.std.specs.Fork.{slice_chunk}
+use Rattle.std.specs.Prelude.{All, slice_index_or}
 use Rattle.bloom_parts.specs.Content.{content}
 use Rattle.bloom_parts.specs.Deciders.{last_decision}
 use Rattle.bloom_parts.specs.Operations.{Insert, decides, state_after}
@@ -12,6 +15,7 @@ use Rattle.bloom_parts.proofs.PublishedLemmas.{unwrap_or-option_or}
 use Rattle.fastbloom.specs.Data.{DefaultFilter}
 use Rattle.fastbloom.specs.Fill.{hashes_of, positions_of_all, words_of}
 use Rattle.fastbloom.specs.Filter.{SameShape, Unites, num_bits_of}
+use Rattle.fastbloom.specs.Replies.{InsertsAll}
 use Rattle.fastbloom.proofs.FillLemmas.{positions_of_all-append}
 use Rattle.summaries_engine.specs.declared.kinds.AnyFilter.TheVariants.{Classic}
 use Rattle.summaries_engine.specs.Crews.{HoldMore, HoldTogether, InsertParts, IsLike, one_has}
@@ -33,16 +37,40 @@ like-same first f g like shape hasher = record {
   hasher = hasher ∙ like.hasher;
 }
 
--- where no hash is left, each filter stays
-pub parts-none : (filters : List DefaultFilter) → InsertParts filters [] filters
-parts-none [] = refl
-parts-none (f ∷ filters) = (
-  [],
-  [],
-  refl,
-  ([], record { bits = λ p. refl; answers = refl; shape = same f; hasher = refl }),
-  parts-none filters,
+-- a part is cut off behind the parts before it
+pub part-cut : (hashes rest part : List ℕ) (size number from most : ℕ)
+    → from ≡ min (number * size) (length hashes) → rest ≡ drop from hashes
+    → most ≡ min size (length rest) → part ≡ take most rest → part ≡ slice_chunk hashes size number
+part-cut hashes rest part size number from most begins left few is =
+    is ∙ ap (λ n. take n rest) few ∙ take_min size rest
+    ∙ ap (take size) (left ∙ ap (λ n. drop n hashes) begins ∙ drop_min (number * size) hashes)
+
+-- where each filter inserted its part of the hashes, and these are no more than all parts have
+pub parts-each : (size : ℕ) (old : List DefaultFilter) (hashes : List ℕ) (new : List DefaultFilter)
+    → length new ≡ length old → length hashes ≤ size * length old
+    → ((k : ℕ) (d : DefaultFilter) → k < length old
+    → InsertsAll (slice_index_or old k d) (slice_chunk hashes size k) (slice_index_or new k d))
+    → InsertParts size old hashes new
+parts-each size [] hashes [] long enough each = nil_from_length hashes (omega (arith, enough))
+parts-each size [] hashes (n ∷ new) long enough each = absurd (omega (arith, long))
+parts-each size (o ∷ old) hashes [] long enough each = absurd (omega (arith, long))
+parts-each size (o ∷ old) hashes (n ∷ new) long enough each = (
+  subst (λ l. InsertsAll o (take size (drop l hashes)) n) (zero-mul size) (each 0 o (omega arith)),
+  parts-each size old (drop size hashes) new (omega (arith, long))
+      (omega (arith, enough, length-drop size hashes))
+      (λ k d low.
+      subst (λ l. InsertsAll (slice_index_or old k d) (take size l) (slice_index_or new k d))
+      (ap (λ n. drop n hashes) (omega arith) ∙ sym (drop-drop (k * size) size hashes)) (each (suc k) d (omega (arith, low)))),
 )
+
+-- so as many filters are there as before
+pub parts-length : (size : ℕ) (old : List DefaultFilter) (hashes : List ℕ)
+    (new : List DefaultFilter) → InsertParts size old hashes new → length new ≡ length old
+parts-length size [] hashes [] did = refl
+parts-length size [] hashes (new ∷ after) did = absurd did
+parts-length size (old ∷ before) hashes [] did = absurd did
+parts-length size (old ∷ before) hashes (new ∷ after) did =
+    ap suc (parts-length size before (drop size hashes) after did.1)
 
 -- after a step that sets some positions, a position is set if it was, or if the step sets it
 made-on : (made was : Bool) → unwrap_or (cond made (Some true) None) was ≡ (was || made)
@@ -73,15 +101,18 @@ module _ (first : DefaultFilter) where
   on hashes p = positions_of_all (num_bits_of first) first.hashes hashes p
 
   -- the filters have the positions of the hashes besides those that they had
-  parts-set : (old : List DefaultFilter) (hashes : List ℕ) (new : List DefaultFilter)
-      → All (IsLike first) old → InsertParts old hashes new
+  parts-set : (size : ℕ) (old : List DefaultFilter) (hashes : List ℕ) (new : List DefaultFilter)
+      → All (IsLike first) old → InsertParts size old hashes new
       → All (IsLike first) new × ((p : ℕ) → one_has new p ≡ (one_has old p || on hashes p))
-  parts-set [] hashes [] alike did = (alike, λ p. sym (ap (λ l. on l p) did))
-  parts-set [] hashes (new ∷ after) alike did = absurd did
-  parts-set (old ∷ before) hashes [] alike did = absurd did
-  parts-set (old ∷ before) hashes (new ∷ after) alike (part, rest, is, (given, did), later) =
+  parts-set size [] hashes [] alike did = (alike, λ p. sym (ap (λ l. on l p) did))
+  parts-set size [] hashes (new ∷ after) alike did = absurd did
+  parts-set size (old ∷ before) hashes [] alike did = absurd did
+  parts-set size (old ∷ before) hashes (new ∷ after) alike ((given, did), later) =
       let like = All-head (IsLike first) old before alike in
-      let more = parts-set before rest after (All-tail (IsLike first) old before alike) later in
+      let part = take size hashes in
+      let rest = drop size hashes in
+      let more = parts-set size before rest after (All-tail (IsLike first) old before alike) later
+      in
       let A = content old.words in (
         All-cons (IsLike first) new after
             (like-same first old new like did.shape did.hasher) more.0,
@@ -95,26 +126,28 @@ module _ (first : DefaultFilter) where
             ∙ or-swap (A p) (on part p) (one_has before p) (on rest p)
             ∙ ap (λ b. one_has (old ∷ before) p || b)
             (sym (positions_of_all-append (num_bits_of first) first.hashes part rest p)
-            ∙ ap (λ l. on l p) (sym is)),
+            ∙ ap (λ l. on l p) (take-append-drop size hashes)),
       )
 
   -- so they hold these hashes together besides those that they held
-  parts-hold : (old new : List DefaultFilter) (before hashes : List ℕ)
-      → HoldTogether first before old → InsertParts old hashes new
+  parts-hold : (size : ℕ) (old new : List DefaultFilter) (before hashes : List ℕ)
+      → HoldTogether first before old → InsertParts size old hashes new
       → HoldTogether first (before ++ hashes) new
-  parts-hold old new before hashes held did =
-      let set = parts-set old hashes new held.alike did in record {
+  parts-hold size old new before hashes held did =
+      let set = parts-set size old hashes new held.alike did in record {
+        some = subst (λ n. 0 < n) (sym (parts-length size old hashes new did)) held.some;
         alike = set.0;
         bits = λ p. set.1 p ∙ ap (λ b. b || on hashes p) (held.bits p)
             ∙ sym (positions_of_all-append (num_bits_of first) first.hashes before hashes p);
       }
 
 -- hashes were taken, and then further ones
-pub holds-more : (start old new : List DefaultFilter) (before hashes : List ℕ)
-    → HoldMore start before old → InsertParts old hashes new → HoldMore start (before ++ hashes) new
-holds-more start old new before hashes took did first earlier held =
+pub holds-more : (size : ℕ) (start old new : List DefaultFilter) (before hashes : List ℕ)
+    → HoldMore start before old → InsertParts size old hashes new
+    → HoldMore start (before ++ hashes) new
+holds-more size start old new before hashes took did first earlier held =
     subst (λ l. HoldTogether first l new) (append_assoc earlier before hashes)
-    (parts-hold first old new (earlier ++ before) hashes (took first earlier held) did)
+    (parts-hold first size old new (earlier ++ before) hashes (took first earlier held) did)
 
 module _ {first : DefaultFilter} {hashes : List ℕ} {whole other : DefaultFilter}
     {rest : List DefaultFilter} (held : HoldTogether first hashes (whole ∷ other ∷ rest)) where
@@ -138,6 +171,7 @@ module _ {first : DefaultFilter} {hashes : List ℕ} {whole other : DefaultFilte
   pub hold-united : {new : DefaultFilter} → Unites whole other new
       → HoldTogether first hashes (new ∷ rest)
   hold-united {new} united = record {
+    some = omega arith;
     alike = All-cons (IsLike first) new rest
         (like-same first whole new like_whole united.shape united.hasher)
         (All-tail (IsLike first) other rest like_rest);
@@ -147,20 +181,20 @@ module _ {first : DefaultFilter} {hashes : List ℕ} {whole other : DefaultFilte
   }
 
 module _ (empty : DefaultFilter) (is : IsEmpty empty) where
-  -- it and its copies hold no hash
-  pub copies-hold : (copies : List DefaultFilter) → All (λ f. f ≡ empty) copies
-      → HoldTogether empty [] (empty ∷ copies)
-  copies-hold copies equal =
-      let all = All-cons (λ f. f ≡ empty) empty copies refl equal in record {
-        alike = All-weaker (λ f. f ≡ empty) (IsLike empty)
-            (λ f copied. subst (IsLike empty) (sym copied)
-            (record { shape = same empty; hasher = refl }))
-            (empty ∷ copies) all;
-        bits = λ p.
-            list_any_none (λ f. content f.words p) (empty ∷ copies)
-            (All-weaker (λ f. f ≡ empty) (λ f. content f.words p ≡ false)
-            (λ f copied. ap (λ g. content g.words p) copied ∙ is.clear p) (empty ∷ copies) all);
-      }
+  -- its copies hold no hash
+  pub copies-hold : (copies : List DefaultFilter) → 0 < length copies → All (λ f. f ≡ empty) copies
+      → HoldTogether empty [] copies
+  copies-hold copies some equal = record {
+    some = some;
+    alike = All-weaker (λ f. f ≡ empty) (IsLike empty)
+        (λ f copied. subst (IsLike empty) (sym copied)
+        (record { shape = same empty; hasher = refl }))
+        copies equal;
+    bits = λ p.
+        list_any_none (λ f. content f.words p) copies
+        (All-weaker (λ f. f ≡ empty) (λ f. content f.words p ≡ false)
+        (λ f copied. ap (λ g. content g.words p) copied ∙ is.clear p) copies equal);
+  }
 
   -- what holds alone what all hold that took hashes, took them
   pub hold-takes : (old new : List DefaultFilter) (made : DefaultFilter) (hashes : List ℕ)

@@ -1,5 +1,5 @@
 -- Filters that take hashes side by side, each a part of them. This project's own.
-use Rattle.std.specs.Prelude.{◌≡◌, ℕ, Bool, List, [], ◌∷◌, ◌++◌, All}
+use Rattle.std.specs.Prelude.{◌≡◌, ◌<◌, ℕ, Bool, List, [], ◌∷◌, ◌++◌, All, drop, length, take}
 use Rattle.std.proofs.Common.{append-nil, subst, sym}
 use Rattle.std.specs.List.{list_any}
 use Rattle.bloom_parts.specs.Content.{content}
@@ -8,13 +8,14 @@ use Rattle.fastbloom.specs.Fill.{positions_of_all}
 use Rattle.fastbloom.specs.Filter.{SameShape, num_bits_of}
 use Rattle.fastbloom.specs.Replies.{InsertsAll}
 
--- each filter inserted a part of the hashes, in order
-abbrev pub InsertParts : List DefaultFilter → List ℕ → List DefaultFilter → Type 0
-InsertParts [] hashes [] = hashes ≡ []
-InsertParts [] hashes (new ∷ after) = ⊥
-InsertParts (old ∷ before) hashes [] = ⊥
-InsertParts (old ∷ before) hashes (new ∷ after) = (part : List ℕ) × (rest : List ℕ)
-    × (hashes ≡ part ++ rest) × InsertsAll old part new × InsertParts before rest after
+-- each filter in turn inserted as many of the hashes that are left as a part has, or all of them
+-- where fewer are left, and then none is left
+abbrev pub InsertParts : ℕ → List DefaultFilter → List ℕ → List DefaultFilter → Type 0
+InsertParts size [] hashes [] = hashes ≡ []
+InsertParts size [] hashes (new ∷ after) = ⊥
+InsertParts size (old ∷ before) hashes [] = ⊥
+InsertParts size (old ∷ before) hashes (new ∷ after) =
+    InsertsAll old (take size hashes) new × InsertParts size before (drop size hashes) after
 
 -- a filter has the shape and the hasher of another
 pub record IsLike (first f : DefaultFilter) : Type 0 where
@@ -25,10 +26,11 @@ pub record IsLike (first f : DefaultFilter) : Type 0 where
 abbrev pub one_has : List DefaultFilter → ℕ → Bool
 one_has filters p = list_any (λ f. content f.words p) filters
 
--- the filters have the shape and the hasher of the first, and exactly the positions of these hashes
+-- some filters have the shape and the hasher of the first, and exactly the positions of these hashes
 -- are set in one of them or another
 pub record HoldTogether (first : DefaultFilter) (hashes : List ℕ) (filters : List DefaultFilter)
     : Type 0 where
+  pub some : 0 < length filters
   pub alike : All (IsLike first) filters
   pub bits : (p : ℕ) → one_has filters p
       ≡ positions_of_all (num_bits_of first) first.hashes hashes p

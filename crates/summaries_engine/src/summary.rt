@@ -6,13 +6,12 @@ ghost use Rattle.summaries_engine.specs.Answers.{IsKeyed};
 ghost use Rattle.summaries_engine.specs.Inputs.{StopsBuilding, StopsHashes, SummarizesInputs};
 ghost use Rattle.summaries_engine.specs.Sizes.{IsEmpty, IsShapeOf};
 
-use crate::crew::{Begun, Crew};
+use crate::crew::Crew;
 use crate::inputs::Inputs;
 use crate::keys::filled_from;
 use crate::stop::Stop;
 use fastbloom::BloomFilter;
 use std::alloc::Global;
-use std::sync::Arc;
 use std::thread::Threads;
 
 /// An empty Bloom filter, filled with all keys of the inputs of these names as they are read. The
@@ -47,39 +46,9 @@ pub fn build_alone<const END: u8, S: Inputs>(
 ///
 /// # Errors
 /// As `build_alone`.
-pub fn build<const END: u8, R: Threads, S: Inputs>(
+pub fn build<const END: u8, R: Threads + Sync, S: Inputs>(
     rt: &R,
     alloc: Global,
-    empty: BloomFilter,
-    workers: usize,
-    inputs: &S,
-    names: &[&str],
-) -> Result<BloomFilter, Stop>
-    requires some { 0 < workers }
-    requires empty { IsEmpty empty }
-    ensures summary { IfOk result (λ filter. (shape : Shape) → IsShapeOf empty shape
-        → SummarizesInputs (S.has inputs.now) END
-        (map (λ name. name.now) names.now) shape (Classic filter)) }
-    ensures hasher { IfOk result (λ filter. filter.hasher ≡ empty.hasher) }
-    ensures keyed { IfOk result (λ filter. IsKeyed (Classic filter)) }
-    // Why there is none.
-    ensures stops { IfErr result (StopsBuilding (S.has inputs.now) (S.fails inputs.now) END
-        (map (λ name. name.now) names.now)) }
-{
-    let Ok(gate) = Arc::new(alloc, Begun::new()) else {
-        return Err(Stop::Memory);
-    };
-    build_through::<END, R, S>(rt, alloc, gate, empty, workers, inputs, names)
-}
-
-/// The same, where each worker passes this gate before it begins, which counts them.
-///
-/// # Errors
-/// As `build`.
-pub fn build_through<const END: u8, R: Threads, S: Inputs>(
-    rt: &R,
-    alloc: Global,
-    gate: Arc<Begun, Global>,
     empty: BloomFilter,
     workers: usize,
     inputs: &S,
@@ -97,7 +66,7 @@ pub fn build_through<const END: u8, R: Threads, S: Inputs>(
         (map (λ name. name.now) names.now)) }
 {
     let key = empty.hasher().key();
-    let Ok(crew) = Crew::new(rt, alloc, gate, empty, workers) else {
+    let Ok(crew) = Crew::new(rt, alloc, empty, workers) else {
         return Err(Stop::Memory);
     };
     match filled_from::<END, Crew<'_, R>, S>(alloc, key, crew, inputs, names) {

@@ -2,25 +2,21 @@
 mod odd;
 mod rows;
 
-ghost use Rattle.std.specs.Prelude.{◌<◌, IfOk};
+ghost use Rattle.std.specs.Prelude.{IfOk};
 ghost use Rattle.summaries_engine.specs.Answers.{IsKeyed};
-ghost use Rattle.summaries_engine.specs.Sizes.{IsEmpty};
 
 use super::faulty::{Seen, Sink, WHOLE};
 use crate::telling::{has_text, tell_row};
-use fastbloom::{BloomFilter, FilterError};
 use odd::Odd;
 use rows::{A, ACTS, Act, Row, UNREAD, reading_of};
 use std::alloc::Global;
-use std::sync::Arc;
 use std::thread::Threads;
 use summaries_engine::{
-    AnyFilter, Begun, Stop, Wanted, ask, build, build_through, classic_with_bits, load, no_json,
-    put, put_file,
+    AnyFilter, Stop, Wanted, ask, build, classic_with_bits, load, no_json, put, put_file,
 };
 
 // The filter of the keys of two inputs.
-fn built<R: Threads + AllocGlobal>(rt: &R, odd: &Odd) -> Result<AnyFilter, Stop> {
+fn built<R: Threads + Sync + AllocGlobal>(rt: &R, odd: &Odd) -> Result<AnyFilter, Stop> {
     let Ok(empty) = classic_with_bits(rt.alloc(), 64, 2, &0) else {
         return Err(Stop::Memory);
     };
@@ -89,7 +85,7 @@ fn write_found(alloc: Global, odd: &Odd, filter: &AnyFilter, output: &mut Sink) 
 }
 
 // Carries an act out: why it stops early.
-fn carry_out<R: Threads + AllocGlobal>(
+fn carry_out<R: Threads + Sync + AllocGlobal>(
     rt: &R,
     act: Act,
     odd: &Odd,
@@ -117,7 +113,12 @@ fn is_reported(alloc: Global, ended: Result<(), Stop>, text: &str) -> bool {
 }
 
 // Whether an act over the first bytes of its input writes and tells what its row says.
-fn is_right<R: Threads + AllocGlobal>(rt: &R, row: &Row, end: usize, filter: &AnyFilter) -> bool
+fn is_right<R: Threads + Sync + AllocGlobal>(
+    rt: &R,
+    row: &Row,
+    end: usize,
+    filter: &AnyFilter,
+) -> bool
     requires { IsKeyed filter.now }
 {
     let seen = Seen::new();
@@ -134,7 +135,7 @@ fn is_right<R: Threads + AllocGlobal>(rt: &R, row: &Row, end: usize, filter: &An
 
 // The same for each beginning of its input behind which a read may fail: any, or the whole, where
 // keys are written before it or no read fails.
-fn are_right<R: Threads + AllocGlobal>(rt: &R, row: &Row, filter: &AnyFilter) -> bool
+fn are_right<R: Threads + Sync + AllocGlobal>(rt: &R, row: &Row, filter: &AnyFilter) -> bool
     requires { IsKeyed filter.now }
 {
     let length = row.1.len();
@@ -151,7 +152,7 @@ fn are_right<R: Threads + AllocGlobal>(rt: &R, row: &Row, filter: &AnyFilter) ->
 }
 
 // Whether all acts write and stop as their rows say. Their threads are those of the test.
-fn all_are_right<R: Threads + AllocGlobal>(
+fn all_are_right<R: Threads + Sync + AllocGlobal>(
     rt: &HostRuntime,
     threads: &R,
     filter: &AnyFilter,
@@ -167,7 +168,7 @@ fn all_are_right<R: Threads + AllocGlobal>(
 }
 
 // The same, of a filter that is loaded.
-fn are_carried_out<R: Threads + AllocGlobal>(rt: &HostRuntime, threads: &R) -> bool {
+fn are_carried_out<R: Threads + Sync + AllocGlobal>(rt: &HostRuntime, threads: &R) -> bool {
     match load(rt.alloc(), "a", 64, &mut &A[..]) {
         Ok((filter, _form)) => {
             let are_right = all_are_right(rt, threads, &filter);
@@ -184,63 +185,4 @@ fn are_carried_out<R: Threads + AllocGlobal>(rt: &HostRuntime, threads: &R) -> b
 #[test]
 fn acts_write_and_stop_as_they_are_to(rt: HostRuntime) {
     assert!(rt; are_carried_out(&rt, &rt));
-}
-
-// A gate, seen twice.
-fn gate_of(alloc: Global) -> Result<(Arc<Begun, Global>, Arc<Begun, Global>), FilterError> {
-    let gate = Arc::new(alloc, Begun::new())?;
-    let seen = Arc::try_clone(&gate)?;
-    Ok((gate, seen))
-}
-
-// Whether the filter of the keys "a", "b", "c" and "d" is built by at most this many workers, each
-// of which passes a gate.
-fn is_built<R: Threads>(
-    rt: &R,
-    alloc: Global,
-    gate: Arc<Begun, Global>,
-    empty: BloomFilter,
-    most: usize,
-) -> bool
-    requires some { 0 < most }
-    requires empty { IsEmpty empty }
-{
-    let seen = Seen::new();
-    let odd = Odd {
-        keys: b"b\nc\nd",
-        reading: WHOLE,
-        seen: &seen,
-    };
-    let made = build_through::<10, _, _>(rt, alloc, gate, empty, most, &odd, &["first", "odd"]);
-    let is_built = made.is_ok();
-    drop(made);
-    is_built
-}
-
-// Whether so many workers fill that filter where at most this many may.
-fn has_workers<R: Threads>(rt: &R, alloc: Global, most: usize, workers: u64) -> bool
-    requires { 0 < most }
-{
-    let Ok(empty) = classic_with_bits(alloc, 64, 2, &0) else {
-        return false;
-    };
-    match gate_of(alloc) {
-        Ok((gate, seen)) => {
-            let is_built = is_built(rt, alloc, gate, empty, most);
-            let passes = seen.count();
-            drop(seen);
-            is_built & (passes == workers)
-        }
-        Err(_refusal) => false,
-    }
-}
-
-// The parts but the last are of one size, so four keys keep only two of three workers at work.
-#[test]
-fn keys_are_divided_among_at_most_as_many_workers_as_asked_for(rt: HostRuntime) {
-    assert!(rt; has_workers(&rt, rt.alloc(), 1, 1));
-    assert!(rt; has_workers(&rt, rt.alloc(), 2, 2));
-    assert!(rt; has_workers(&rt, rt.alloc(), 3, 2));
-    assert!(rt; has_workers(&rt, rt.alloc(), 4, 4));
-    assert!(rt; has_workers(&rt, rt.alloc(), 8, 4));
 }

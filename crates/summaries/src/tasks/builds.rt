@@ -92,7 +92,7 @@ fn empty_blocked(alloc: Global, size: Size, seed: &u128) -> Result<BlockedBloomF
 }
 
 // An empty Bloom filter, filled by this many workers with the keys of these inputs.
-fn fill_classic<const END: u8, R: Files + Input + Eprint + AllocGlobal + Threads>(
+fn fill_classic<const END: u8, R: Files + Input + Eprint + AllocGlobal + Threads + Sync>(
     rt: &R,
     workers: usize,
     empty: BloomFilter,
@@ -109,7 +109,7 @@ fn fill_classic<const END: u8, R: Files + Input + Eprint + AllocGlobal + Threads
 }
 
 // The Bloom filter of the keys of these inputs.
-fn classic_of<R: Files + Input + Eprint + AllocGlobal + Threads>(
+fn classic_of<R: Files + Input + Eprint + AllocGlobal + Threads + Sync>(
     rt: &R,
     matches: &ArgMatches,
     files: &KeyFiles<R>,
@@ -148,7 +148,7 @@ fn blocked_of<R: Files + Input + Eprint + AllocGlobal>(
 }
 
 // Builds the filter of the keys of these inputs, and writes it.
-fn build_of<R: Files + Input + Eprint + AllocGlobal + Threads, W: Write>(
+fn build_of<R: Files + Input + Eprint + AllocGlobal + Threads + Sync, W: Write>(
     rt: &R,
     matches: &ArgMatches,
     is_on: bool,
@@ -166,7 +166,7 @@ fn build_of<R: Files + Input + Eprint + AllocGlobal + Threads, W: Write>(
 }
 
 // Builds the filter of the keys of the inputs that the words name.
-pub(super) fn run_build<R: Files + Input + Eprint + AllocGlobal + Threads, W: Write>(
+pub(super) fn run_build<R: Files + Input + Eprint + AllocGlobal + Threads + Sync, W: Write>(
     rt: &R,
     matches: &ArgMatches,
     is_on: bool,

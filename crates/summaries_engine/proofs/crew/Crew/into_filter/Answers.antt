@@ -9,13 +9,13 @@ pub union-requires : goal.union-requires
 union-requires g c =
     hold-same
     (subst (λ l. HoldTogether c.requires.0 c.requires.1 (c.others.whole ∷ l))
-    c.in-Some.ensures.steps.0 (c.others.invariant c.requires.0 c.requires.1 c.requires.2))
+    c.in-Some-other.ensures.steps.0 (c.others.invariant c.requires.0 c.requires.1 c.requires.2))
 
 -- one filter fewer is left
 pub others-preserved : goal.others-preserved
 others-preserved g c = λ first hashes held.
     hold-united
-    (subst (λ l. HoldTogether first hashes (c.others.whole ∷ l)) c.in-Some.ensures.steps.0
+    (subst (λ l. HoldTogether first hashes (c.others.whole ∷ l)) c.in-Some-other.ensures.steps.0
     (c.others.invariant first hashes held))
     c.union.ensures.unites
 

@@ -1,7 +1,17 @@
+use Rattle.std.proofs.Common.{◌≡◌, ◌++◌, [], ◌∷◌, arith, refl, subst, sym}
+use Rattle.std.proofs.lemmas.List.{length-append}
+use Rattle.std.proofs.lemmas.List.Elements.{All-append, All-cons}
+use Rattle.summaries_engine.specs.Crews.{HoldTogether}
 use Rattle.summaries_engine.proofs.CrewLemmas.{copies-hold}
 use Rattle.summaries_engine.proofs.crew.Crew.new.Goals as goal
 
 -- all filters are empty
 pub returns-clause-none : goal.returns-clause-none
 returns-clause-none g c =
-    copies-hold c.args.empty c.requires.empty c.others.others.items c.others.invariant.copies
+    let empty = c.args.empty in
+    let copies = c.filters.filters.items in
+    subst (HoldTogether empty []) (sym c.in_ok-push-2.ensures.items)
+    (copies-hold empty c.requires.empty (copies ++ empty ∷ [])
+    (omega (arith, length-append copies (empty ∷ [])))
+    (All-append (λ f. f ≡ empty) copies (empty ∷ []) c.filters.invariant.copies
+    (All-cons (λ f. f ≡ empty) empty [] refl (λ k d low. absurd (omega (arith, low))))))

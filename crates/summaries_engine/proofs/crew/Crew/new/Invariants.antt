@@ -3,8 +3,8 @@ use Rattle.std.specs.Prelude.{All}
 use Rattle.summaries_engine.proofs.crew.Crew.new.Given as goal
 
 -- the filters so far are copies
-abbrev pub invariant-others : goal.invariant-others
-invariant-others g l = record {
-  copies : All (λ f. f ≡ l.fn.empty) l.others.items;
-  counted : 1 + length l.others.items ≡ l.counter;
+abbrev pub invariant-filters : goal.invariant-filters
+invariant-filters g l = record {
+  copies : All (λ f. f ≡ l.fn.empty) l.filters.items;
+  counted : 1 + length l.filters.items ≡ l.counter;
 }

@@ -1,16 +1,17 @@
 use Rattle.std.proofs.Common.{[], ◌∙◌, ap, map, subst}
+use denote.Param.Send.{sendable}
 use Rattle.bloom_parts.specs.Keys.{key_of}
 use Rattle.summaries_engine.specs.declared.kinds.AnyFilter.TheVariants.{Classic}
 use Rattle.summaries_engine.specs.Inputs.{HashesInputs}
 use Rattle.summaries_engine.proofs.CrewLemmas.{hold-takes}
 use Rattle.summaries_engine.proofs.FillerLemmas.{keyed-made, summary-made}
-use Rattle.summaries_engine.proofs.summary.build_through.Goals as goal
+use Rattle.summaries_engine.proofs.summary.build.Goals as goal
 
 -- the filters hold all keys together
 pub into_filter-requires : goal.into_filter-requires
 into_filter-requires g c =
     let did = c.in-Ok-filled_from.ensures.all in
-    (c.args.empty, did.0, did.2 c.args.empty [] c.in-Ok.ensures.none)
+    (search sendable, (c.args.empty, did.0, did.2 c.args.empty [] c.in-Ok.ensures.none))
 
 -- exactly the bits of all keys are set
 pub returns-in-Ok-filled_from-clause-summary : goal.returns-in-Ok-filled_from-clause-summary
