@@ -45,7 +45,7 @@ part-cut hashes rest part size number from most begins left few is =
     is ∙ ap (λ n. take n rest) few ∙ take_min size rest
     ∙ ap (take size) (left ∙ ap (λ n. drop n hashes) begins ∙ drop_min (number * size) hashes)
 
--- where each filter inserted its part of the hashes, and these are no more than all parts have
+-- where each filter inserted the part of its number, and all parts have room for the hashes
 pub parts-each : (size : ℕ) (old : List DefaultFilter) (hashes : List ℕ) (new : List DefaultFilter)
     → length new ≡ length old → length hashes ≤ size * length old
     → ((k : ℕ) (d : DefaultFilter) → k < length old
@@ -60,7 +60,8 @@ parts-each size (o ∷ old) hashes (n ∷ new) long enough each = (
       (omega (arith, enough, length-drop size hashes))
       (λ k d low.
       subst (λ l. InsertsAll (slice_index_or old k d) (take size l) (slice_index_or new k d))
-      (ap (λ n. drop n hashes) (omega arith) ∙ sym (drop-drop (k * size) size hashes)) (each (suc k) d (omega (arith, low)))),
+      (ap (λ n. drop n hashes) (omega arith) ∙ sym (drop-drop (k * size) size hashes))
+      (each (suc k) d (omega (arith, low)))),
 )
 
 -- so as many filters are there as before

@@ -26,8 +26,8 @@ pub record IsLike (first f : DefaultFilter) : Type 0 where
 abbrev pub one_has : List DefaultFilter → ℕ → Bool
 one_has filters p = list_any (λ f. content f.words p) filters
 
--- some filters have the shape and the hasher of the first, and exactly the positions of these hashes
--- are set in one of them or another
+-- there are filters, of the shape and the hasher of the first, and exactly the positions of these
+-- hashes are set in one of them or another
 pub record HoldTogether (first : DefaultFilter) (hashes : List ℕ) (filters : List DefaultFilter)
     : Type 0 where
   pub some : 0 < length filters

@@ -58,8 +58,8 @@ impl<'a, R: Threads + Sync> Crew<'a, R> {
         Ok(Crew { rt, filters })
     }
 
-    // Divides hashes among the filters, each of which a worker fills. There are no more workers than
-    // hashes.
+    // Divides hashes among the filters, each of which a worker fills. There are at most as many
+    // workers as hashes.
     fn insert(&mut self, hashes: &[u64])
         requires some { 0 < vec_len self.old.filters }
         ensures { InsertParts (div_ceil (length hashes.now) (vec_len self.old.filters))

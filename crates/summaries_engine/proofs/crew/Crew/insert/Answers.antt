@@ -17,15 +17,16 @@ returns g c =
     let hashes = c.args.hashes.now in
     let new = c.for_each_mut.new.s in
     let size = c.div_ceil-size.result in
-    let long : length new ≡ length filters.items =
-    c.for_each_mut.auto.s ∙ ap length c.deref_mut.ensures.value in
+    let old-is = c.deref_mut.ensures.value in
+    let long : length new ≡ length filters.items = c.for_each_mut.auto.s ∙ ap length old-is in
     let each : (k : ℕ) (d : DefaultFilter) → k < length filters.items
-    → InsertsAll (slice_index_or filters.items k d) (slice_chunk hashes size k) (slice_index_or new k d) =
+    → InsertsAll (slice_index_or filters.items k d) (slice_chunk hashes size k)
+    (slice_index_or new k d) =
     λ k d low.
-    let at = (c.for_each_mut.ensures k d (omega (arith, low, ap length c.deref_mut.ensures.value))).1 in
-    subst (λ n. InsertsAll (slice_index_or filters.items k d) (slice_chunk hashes size k) n) at.left
-    (subst (λ o. InsertsAll o (slice_chunk hashes size k) at.after_call.now)
-    (at.argument_is ∙ ap (λ l. slice_index_or l k d) c.deref_mut.ensures.value) at.call) in
+    let at = (c.for_each_mut.ensures k d (omega (arith, low, ap length old-is))).1 in
+    subst (InsertsAll (slice_index_or filters.items k d) (slice_chunk hashes size k)) at.left
+    (subst (λ f. InsertsAll f (slice_chunk hashes size k) at.after_call.now)
+    (at.argument_is ∙ ap (λ l. slice_index_or l k d) old-is) at.call) in
     let size-is : size ≡ div_ceil (length hashes) filters.len =
     c.div_ceil-size.ensures ∙ ap (div_ceil (length hashes)) c.len-workers.ensures in
     let enough : length hashes ≤ size * length filters.items =
