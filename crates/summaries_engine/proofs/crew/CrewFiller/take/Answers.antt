@@ -10,8 +10,13 @@ insert-requires-sync-R g c κs within = c.requires.0
 pub returns-clause-ready : goal.returns-clause-ready
 returns-clause-ready g c = (
   c.requires.0,
-  omega (arith, c.requires.1, c.args.self.now.filters.ok, c.insert.new.self.filters.ok,
-      parts-length _ _ _ _ c.insert.ensures),
+  omega (
+    arith,
+    c.requires.1,
+    c.args.self.now.filters.ok,
+    c.insert.new.self.filters.ok,
+    parts-length _ _ _ _ c.insert.ensures,
+  ),
 )
 
 -- each filter took its part
