@@ -96,11 +96,10 @@ lines_refusal-many = refl
 
 -- the number of each refusal
 lines_code-each : (lines_code_of lines.EmptyWords ≡ 2) × (lines_code_of lines.TooManyWords ≡ 3)
-    × (lines_code_of lines.PartOfALine ≡ 16) × (lines_code_of lines.HashCount ≡ 7)
-lines_code-each = (refl, refl, refl, refl)
+    × (lines_code_of lines.PartOfALine ≡ 16)
+lines_code-each = (refl, refl, refl)
 
 -- one that other filters have has their number
 lines_code-shared : (lines_code_of lines.EmptyWords ≡ code_of filter.EmptyWords)
     × (lines_code_of lines.TooManyWords ≡ code_of filter.TooManyWords)
-    × (lines_code_of lines.HashCount ≡ code_of filter.HashCount)
-lines_code-shared = (refl, refl, refl)
+lines_code-shared = (refl, refl)

@@ -1,16 +1,13 @@
 -- The laws of blocked filters.
-use Rattle.std.proofs.Common.{◌≡◌, ℕ, ◌/◌, Bool, true, ◌&&◌, ◌||◌, List, [], ◌∷◌, length, sym, ◌∙◌, ap, subst, inl, inr, arith}
+use Rattle.std.proofs.Common.{◌≡◌, ℕ, ◌/◌, Bool, true, ◌&&◌, ◌||◌, List, [], ◌∷◌, sym, ◌∙◌, ap, subst, inl, inr}
 use Rattle.std.proofs.lemmas.Bool.{or_cases, or_left, or_right}
 use Rattle.std.proofs.Math.Bool.{or-false}
 use Rattle.bloom_parts.specs.Content.{content}
 use Rattle.bloom_parts.specs.Places.{IsPart}
 use Rattle.bloom_parts.proofs.PublishedLemmas.{are_in-off}
-use Rattle.bloom_parts.specs.Keys.{key_of}
-use Rattle.bloom_plain.specs.Data.{DefaultFilter}
 use Rattle.bloom_plain.specs.Filter.{Filter, SameShape}
 use Rattle.bloom_blocked.specs.Lines.{line_of, inner_of, in_line, line_positions, are_in_line}
 use Rattle.bloom_blocked.specs.Blocked.{num_lines_of, contains_in_line, InsertsInLine, InsertsAllInLines}
-use Rattle.bloom_blocked.specs.BlockedData.{AnswerAlikeInLines, LineDataLaw}
 use Rattle.bloom_blocked.specs.BlockedLaws.{InsertInLineLaw, KeptByInsertInLineLaw, KeptByInsertsInLinesLaw, KeptByUnionOfLinesLaw, UnionOfLinesLaw, IntersectionOfLinesLaw, ClearOfLinesLaw, InsertsOneByOne, OneByOneLaw}
 use Rattle.bloom_blocked.proofs.PositionLemmas.{line-greater, line-inserted, line-both}
 use Rattle.bloom_blocked.specs.InsertLaws.{inserts_all-none, inserts_all-join}
@@ -116,21 +113,3 @@ all-of-single old new (hash ∷ hashes) (mid, reply, first, later) =
 pub one_by_one_law : (S : Type 0) → OneByOneLaw S
 one_by_one_law S old one all hashes single many p =
     (all-of-single old one hashes single).bits p ∙ sym (many.bits p)
-
--- filters of equal parts answer every hash alike
-pub alike-parts : (f g : DefaultFilter) → g.words ≡ f.words → g.hashes ≡ f.hashes
-    → key_of g.hasher ≡ key_of f.hasher → AnswerAlikeInLines f g
-alike-parts f g words hashes key = record {
-  words = words;
-  hashes = hashes;
-  key = key;
-  found = λ hash.
-      ap (λ w. are_in_line (length w / 8) g.hashes hash (content w)) words
-      ∙ ap (λ k. are_in_line (length f.words / 8) k hash (content f.words)) hashes;
-}
-
--- filters of the same data have equal parts
-pub line_data_law : LineDataLaw
-line_data_law f g form of made =
-    alike-parts f g (made.words ∙ sym of.words) (omega (arith, made.hashes, of.hashes))
-    (made.key ∙ sym of.key)

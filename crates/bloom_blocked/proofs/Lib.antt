@@ -1,5 +1,4 @@
 mod BitLemmas
-mod BlockedDataFacts
 mod BlockedFacts
 mod BlockedLawFacts
 mod BlockedMadeFacts

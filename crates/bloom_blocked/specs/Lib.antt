@@ -1,5 +1,4 @@
 pub mod Blocked
-pub mod BlockedData
 pub mod BlockedLaws
 pub mod BlockedSizing
 pub mod InsertLaws

@@ -1,7 +1,7 @@
 -- Why words are refused that are no lines. The order of the reasons is this project's choice.
 use Rattle.std.specs.Prelude.{ℕ, ◌%◌, ◌^◌, Option, Some, None, nat_eq, nat_le, if◌then◌else◌}
 use Rattle.bloom_blocked.specs.declared.error.LinesError.{LinesError}
-use Rattle.bloom_blocked.specs.declared.error.LinesError.TheVariants.{EmptyWords, TooManyWords, PartOfALine, HashCount}
+use Rattle.bloom_blocked.specs.declared.error.LinesError.TheVariants.{EmptyWords, TooManyWords, PartOfALine}
 
 -- why this many words are refused, if they are
 abbrev pub lines_refusal : ℕ → Option LinesError
@@ -16,4 +16,3 @@ abbrev pub lines_code_of : LinesError → ℕ
 lines_code_of EmptyWords = 2
 lines_code_of TooManyWords = 3
 lines_code_of PartOfALine = 16
-lines_code_of HashCount = 7

@@ -16,9 +16,6 @@ pub enum LinesError {
     /// The number of words isn't a multiple of eight.
     #[error("words that are no whole lines")]
     PartOfALine,
-    /// A stored hash count is 2^32 - 1.
-    #[error("hash count too large")]
-    HashCount,
 }
 
 impl LinesError {
@@ -30,7 +27,6 @@ impl LinesError {
             LinesError::EmptyWords => 2,
             LinesError::TooManyWords => 3,
             LinesError::PartOfALine => 16,
-            LinesError::HashCount => 7,
         }
     }
 }

@@ -8,7 +8,6 @@ ghost use Rattle.bloom_blocked.specs.Blocked.{HasBlockedShape, contains_in_line,
 ghost use Rattle.bloom_blocked.specs.LineRates.{BoundsLines, line_words};
 ghost use Rattle.bloom_blocked.specs.Many.{TellsFound, TellsNew};
 
-mod data;
 mod items;
 mod sets;
 
@@ -17,7 +16,6 @@ use crate::{by_hash, many};
 use bloom_parts::hasher::DefaultHasher;
 use bloom_parts::math::Bracket;
 use bloom_parts::slices;
-pub use data::BlockedFilterData;
 use std::iter::Copied;
 use std::marker::Model;
 use std::slice;

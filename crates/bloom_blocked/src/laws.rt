@@ -1,5 +1,4 @@
 //! Laws of blocked filters. These functions do nothing: their contracts are the laws.
-ghost use Rattle.bloom_blocked.specs.BlockedData.{LineDataLaw};
 ghost use Rattle.bloom_blocked.specs.BlockedLaws.{InsertInLineLaw, KeptByInsertInLineLaw, KeptByInsertsInLinesLaw, KeptByUnionOfLinesLaw, UnionOfLinesLaw, IntersectionOfLinesLaw, ClearOfLinesLaw, OneByOneLaw};
 ghost use Rattle.bloom_blocked.specs.LineCourses.{LineCourseLaw, LiveScriptLaw};
 ghost use Rattle.bloom_blocked.specs.Lines.{LinePositionsLaw, LineSubsetLaw, LineRangeLaw, OneLineLaw};
@@ -62,11 +61,4 @@ pub fn clear_contains_nothing<S>()
 #[tactic(auto, using(crate::proofs::LawLemmas::one_by_one_law))]
 pub fn many_are_as_one_by_one<S>()
     ensures { OneByOneLaw S }
-{}
-
-/// A filter that is made of another's data has its words, number of hashes and key, and contains
-/// the same hashes.
-#[tactic(auto, using(crate::proofs::LawLemmas::line_data_law))]
-pub fn data_answer_alike()
-    ensures { LineDataLaw }
 {}

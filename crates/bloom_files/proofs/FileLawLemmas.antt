@@ -1,9 +1,9 @@
 -- Files of filters read back as these filters.
-use Rattle.std.proofs.Common.{◌≡◌, ℕ, zero, suc, ◌*◌, ◌^◌, ◌<◌, ◌≤◌, List, [], ◌∷◌, ◌++◌, length, drop, Some, None, refl, sym, ap, subst, ◌∙◌, arith, inl, inr, lit<}
+use Rattle.std.proofs.Common.{◌≡◌, ℕ, zero, suc, ◌*◌, ◌/◌, ◌^◌, ◌<◌, ◌≤◌, List, [], ◌∷◌, ◌++◌, length, drop, Some, None, refl, sym, ap, subst, ◌∙◌, arith, inl, inr, lit<}
 use Rattle.std.specs.Prelude.{◌⊎◌, slice_index}
 use Rattle.std.specs.Option.{option_or}
 use Rattle.std.proofs.lemmas.Grind.{common_steps}
-use Rattle.bloom_parts.specs.Content.{AreWords}
+use Rattle.bloom_parts.specs.Content.{AreWords, content}
 use Rattle.bloom_parts.specs.Keys.{HasKey, key_of}
 use Rattle.bloom_parts.specs.Sip.{sip, whole_words}
 use Rattle.bloom_parts.specs.declared.hasher.CloneBuildHasher.{CloneBuildHasher}
@@ -17,9 +17,9 @@ use Rattle.bloom_plain.specs.Data.{DefaultFilter}
 use Rattle.bloom_files.specs.File.{bytes_of, head_of, mark}
 use Rattle.bloom_files.specs.FileLayouts.{AreWhole, IsFileIn, layout_number, layout_refusal, numbers_in, refusal_in, right_seal, sealed_bytes}
 use Rattle.bloom_files.specs.FileRefusals.{head_refusal, number_at, wrong_seal}
-use Rattle.bloom_files.specs.FilterFiles.{BlockedRefusedLaw, FileLaw, IsFileOf, NotBlockedRefusedLaw, ReadableLaw, SameFileItemsLaw}
+use Rattle.bloom_files.specs.FilterFiles.{AnswerAlikeInLines, BlockedRefusedLaw, FileLaw, IsFileOf, NotBlockedRefusedLaw, ReadableLaw, SameFileItemsLaw}
 use Rattle.bloom_plain.proofs.DataLemmas.{alike-parts}
-use Rattle.bloom_blocked.proofs.LawLemmas.{alike-parts as alike-in-lines}
+use Rattle.bloom_blocked.specs.Lines.{are_in_line}
 use Rattle.bloom_files.proofs.NumberLemmas.{length-bytes_of, whole_words-alone, whole_words-bytes}
 use Rattle.bloom_files.proofs.RefusalLemmas.{refusal_in-head}
 use Rattle.bloom_files.proofs.SealLemmas.{sealed-head}
@@ -181,6 +181,18 @@ module _ (layout : Layout) (bytes : List ℕ) (f g : DefaultFilter) (of : IsFile
 
   pub same-key : key_of g.hasher ≡ key_of f.hasher
   same-key = λ i. (same-number 3 i, same-number 4 i)
+
+-- blocked filters of equal parts answer every hash alike
+alike-in-lines : (f g : DefaultFilter) → g.words ≡ f.words → g.hashes ≡ f.hashes
+    → key_of g.hasher ≡ key_of f.hasher → AnswerAlikeInLines f g
+alike-in-lines f g words hashes key = record {
+  words = words;
+  hashes = hashes;
+  key = key;
+  found = λ hash.
+      ap (λ w. are_in_line (length w / 8) g.hashes hash (content w)) words
+      ∙ ap (λ k. are_in_line (length f.words / 8) k hash (content f.words)) hashes;
+}
 
 -- so they contain the same hashes
 pub file_law : FileLaw

@@ -12,8 +12,7 @@ use Rattle.bloom_plain.specs.Data.{DefaultFilter}
 use Rattle.bloom_files.specs.File.{FitsWords, bytes_of}
 use Rattle.bloom_files.specs.FileLayouts.{refusal_in}
 use Rattle.bloom_blocked.specs.Blocked.{contains_in_line}
-use Rattle.bloom_blocked.specs.BlockedData.{AnswerAlikeInLines}
-use Rattle.bloom_files.specs.FilterFiles.{BlockedRefusedLaw, FileLaw, IsFileOf, NotBlockedRefusedLaw, ReadableLaw, ReadsFile, file_of}
+use Rattle.bloom_files.specs.FilterFiles.{AnswerAlikeInLines, BlockedRefusedLaw, FileLaw, IsFileOf, NotBlockedRefusedLaw, ReadableLaw, ReadsFile, file_of}
 
 -- the bytes of a small number, of which only the lowest isn't 0
 abbrev low : ℕ → List ℕ
@@ -173,6 +172,13 @@ reads-longer is =
 -- each filter of the worked file answers as the worked filter does
 file-used : FileLaw → (f : DefaultFilter) → IsFileOf Lines worked f → AnswerAlikeInLines crabs f
 file-used law f is = law Lines worked crabs f is_file-worked is
+
+-- a filter answers as itself, and one of one hash not as one of two
+alike : (f : DefaultFilter) → AnswerAlikeInLines f f
+alike f = record { words = refl; hashes = refl; key = refl; found = λ hash. refl }
+
+alike-hashes : (f g : DefaultFilter) → f.hashes ≡ 1 → g.hashes ≡ 2 → AnswerAlikeInLines f g → ⊥
+alike-hashes f g one two same = omega (arith, one, two, same.hashes)
 
 -- the worked file is good where lines are read, and refused by name where none are
 readable-used : ReadableLaw → refusal_in Lines unsealed ≡ None

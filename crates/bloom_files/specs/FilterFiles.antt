@@ -2,10 +2,11 @@
 -- are this project's choice.
 use Rattle.std.specs.Prelude.{◌≡◌, ℕ, List, Option, Some, None}
 use Rattle.std.specs.Io.KnownBytes.{Consumes, IsAtEnd}
+use Rattle.bloom_parts.specs.Keys.{key_of}
 use Rattle.bloom_parts.specs.declared.hasher.CloneBuildHasher.{CloneBuildHasher}
 use Rattle.bloom_parts.specs.declared.hasher.sip.RandomDefaultHasher.{RandomDefaultHasher}
 use Rattle.bloom_plain.specs.Data.{AnswerAlike, DefaultFilter}
-use Rattle.bloom_blocked.specs.BlockedData.{AnswerAlikeInLines}
+use Rattle.bloom_blocked.specs.Blocked.{contains_in_line}
 use Rattle.bloom_files.specs.declared.error.FileError.TheVariants.{Blocked, NotBlocked}
 use Rattle.bloom_files.specs.declared.layout.Layout.{Layout}
 use Rattle.bloom_files.specs.declared.layout.Layout.TheVariants.{Whole, Lines}
@@ -28,6 +29,13 @@ pub record ReadsFile (layout : Layout) (old new : Option (List ℕ)) (f : Defaul
     pub taken : Consumes old new bytes
     pub is_file : IsFileOf layout bytes f
     pub end : IsAtEnd new
+
+-- two blocked filters have equal words, numbers of hashes and keys, and contain the same hashes
+pub record AnswerAlikeInLines (f g : DefaultFilter) : Type 0 where
+  pub words : g.words ≡ f.words
+  pub hashes : g.hashes ≡ f.hashes
+  pub key : key_of g.hasher ≡ key_of f.hasher
+  pub found : (hash : ℕ) → contains_in_line g hash ≡ contains_in_line f hash
 
 -- two filters of one kind have equal words, numbers of hashes and keys, and contain the same hashes
 abbrev pub AnswerAlikeIn : Layout → DefaultFilter → DefaultFilter → Type 0

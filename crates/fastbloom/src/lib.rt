@@ -22,7 +22,7 @@ mod seated;
 pub use atomic::AtomicBloomFilter;
 pub use bloom_blocked::{
     AtomicBlockedBloomFilter, BlockedBloomFilter, BlockedBuilderWithBits,
-    BlockedBuilderWithFalsePositiveRate, BlockedFilterData, LinesError,
+    BlockedBuilderWithFalsePositiveRate, LinesError,
 };
 pub use bloom_files as file;
 pub use bloom_files::{FileError, FilterFile};

@@ -1,7 +1,5 @@
-//! Blocked filters: calls on both kinds, drawn sessions, and threads.
+//! Blocked filters: drawn sessions, the same calls on both kinds, and threads.
 
-mod calls;
-mod holding;
 mod sessions;
 mod threads;
 
@@ -10,12 +8,11 @@ use fastbloom::{AtomicBlockedBloomFilter, BlockedBloomFilter, FilterError, Rate}
 use sessions::fold_ten;
 use std::alloc::Global;
 
-// How a filter is made: lines, the number of hashes, and what was inserted.
-#[derive(Drop)]
+// How an empty filter is made: lines, and the number of hashes.
+#[derive(Clone, Copy)]
 struct Make {
     lines: usize,
     num_hashes: u32,
-    hashes: &'static [u64],
 }
 
 // A plain and a shared filter, on which the same calls are made.
@@ -29,11 +26,7 @@ struct Pair {
 fn plain_of(alloc: Global, make: &Make) -> Result<BlockedBloomFilter, FilterError> {
     let words = vec![in alloc; 0u64; make.lines.saturating_mul(8)]?;
     match BlockedBloomFilter::from_vec(words) {
-        Ok(builder) => {
-            let mut filter = builder.seed(&42).hashes(make.num_hashes);
-            filter.insert_hashes(make.hashes);
-            Ok(filter)
-        }
+        Ok(builder) => Ok(builder.seed(&42).hashes(make.num_hashes)),
         Err(_refusal) => Err(FilterError::EmptyWords),
     }
 }
@@ -78,4 +71,79 @@ fn is_of_three(alloc: Global) -> Result<bool, FilterError> {
 #[test]
 fn a_blocked_filter_is_made_for_its_items(rt: HostRuntime) {
     assert!(rt; matches!(is_of_three(rt.alloc()), Ok(true)));
+}
+
+// Whether both filters have the same words.
+fn are_alike(pair: &Pair) -> bool {
+    pair.plain.iter().eq(pair.shared.iter())
+}
+
+// Whether both take items alike.
+fn take_items(pair: &mut Pair) -> bool {
+    let Pair { plain, shared } = pair;
+    let is_new = !plain.insert(&7u64) & !shared.insert(&7u64);
+    plain.insert_all(&[1u64, 2]);
+    shared.insert_all(&[1u64, 2]);
+    plain.extend(3..100u64);
+    shared.extend(3..100u64);
+    is_new & plain.contains(&99u64) & shared.contains(&99u64) & are_alike(pair)
+}
+
+// Whether both are united and intersected alike with another pair of their shape.
+fn meet(pair: &mut Pair, other: &Pair) -> bool {
+    let Pair { plain, shared } = pair;
+    if !plain.same_shape(&other.plain) || !shared.same_shape(&other.shared) {
+        return false;
+    }
+    plain.union(&other.plain);
+    shared.union(&other.shared);
+    let are_united = plain.iter().eq(shared.iter());
+    plain.intersect(&other.plain);
+    shared.intersect(&other.shared);
+    are_united & are_alike(pair)
+}
+
+// Whether both are cleared, and the copy of a filter stays as it is.
+fn are_cleared(pair: &mut Pair, copy: &BlockedBloomFilter) -> bool {
+    let is_copied = pair.plain == *copy;
+    pair.plain.clear();
+    pair.shared.clear();
+    is_copied & (pair.plain != *copy) & (pair.plain.count_ones() == 0) & are_alike(pair)
+}
+
+// Whether all this holds of a pair beside another.
+fn agree(alloc: Global, pair: &mut Pair, other: &mut Pair) -> bool {
+    let are_met = take_items(pair) & meet(pair, other) & take_items(other) & meet(pair, other);
+    match pair.plain.try_clone(alloc) {
+        Ok(copy) => are_met & are_cleared(pair, &copy) & meet(pair, other),
+        Err(_refusal) => false,
+    }
+}
+
+// The same, of pairs that are made.
+fn kinds_agree(alloc: Global, make: &Make) -> Result<bool, FilterError> {
+    let mut pair = pair_of(alloc, make)?;
+    match pair_of(alloc, make) {
+        Ok(mut other) => Ok(agree(alloc, &mut pair, &mut other)),
+        Err(refusal) => Err(refusal),
+    }
+}
+
+// From a mebibyte on hashes go in 64 at a time.
+const MAKES: &'static [Make] = &[
+    Make {
+        lines: 3,
+        num_hashes: 2,
+    },
+    Make {
+        lines: 16384,
+        num_hashes: 7,
+    },
+];
+
+#[test]
+fn calls_on_both_kinds_leave_the_same_words(rt: HostRuntime) {
+    for (i, make) in MAKES.iter().enumerate() {
+        assert!(rt; tell_row(&rt, i, matches!(kinds_agree(rt.alloc(), make), Ok(true))));
+    }
 }

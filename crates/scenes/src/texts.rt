@@ -45,10 +45,6 @@ const TEXTS: &'static [(AnyError, &'static str)] = &[
         "words that are no whole lines",
     ),
     (
-        AnyError::Lines(LinesError::HashCount),
-        "hash count too large",
-    ),
-    (
         AnyError::Growing(GrowingError::RateOverflow),
         "lower part of the rate too large",
     ),

@@ -58,7 +58,6 @@ fn make_of(session: u64) -> Make {
     Make {
         lines,
         num_hashes: 1 + session as u32 % 13,
-        hashes: &[],
     }
 }
 

@@ -82,11 +82,7 @@ fn filters_of(alloc: Global, make: &Make) -> Result<(Shared, BlockedBloomFilter)
 // Whether two threads leave the words of one, in filters of these lines and hashes.
 fn ends_well<R: Threads>(rt: &R, alloc: Global, row: (usize, u32)) -> bool {
     let (lines, num_hashes) = row;
-    let make = Make {
-        lines,
-        num_hashes,
-        hashes: &[],
-    };
+    let make = Make { lines, num_hashes };
     match filters_of(alloc, &make) {
         Ok((shared, mut plain)) => leave(rt, alloc, &shared, &mut plain),
         Err(_refusal) => false,
