@@ -128,6 +128,20 @@ fn sift<V: Sieve + Gauge, W: Write + Drop>(
     }
 }
 
+// Sifts the inputs by a filter, if it was made, and gives the status.
+fn sift_by<V: Sieve + Gauge + Drop, W: Write + Drop>(
+    rt: &HostRuntime,
+    request: &Request,
+    made: Result<V, GrowingError>,
+    output: &mut W,
+) -> Result<u8, &'static str> {
+    match made {
+        Ok(mut filter) => Ok(sift(rt, request, &mut filter, output)),
+        Err(GrowingError::Filter(FilterError::Memory)) => Ok(tell_no_room(rt, "out of memory")),
+        Err(_) => Err("there is no filter for this many lines at this rate"),
+    }
+}
+
 // Sifts the inputs by the filter that is asked for, and gives the status.
 fn sift_by_filter<W: Write + Drop>(
     rt: &HostRuntime,
@@ -136,32 +150,20 @@ fn sift_by_filter<W: Write + Drop>(
 ) -> Result<u8, &'static str> {
     let (alloc, rate, seed) = (rt.alloc(), request.rate, &request.seed);
     let items = request.items as usize;
-    let refusal = if let Some(last) = request.last {
-        match RotatingFilter::seeded(alloc, rate, last as usize, seed) {
-            Ok(mut filter) => return Ok(sift(rt, request, &mut filter, output)),
-            Err(refusal) => refusal,
-        }
+    if let Some(last) = request.last {
+        let made = RotatingFilter::seeded(alloc, rate, last as usize, seed);
+        sift_by(rt, request, made, output)
     } else if request.blocked {
         let builder = BlockedBloomFilter::with_false_pos(rate).seed(seed);
-        match builder.expected_items(alloc, items) {
-            Ok(mut filter) => return Ok(sift(rt, request, &mut filter, output)),
-            Err(refusal) => GrowingError::Filter(refusal),
-        }
+        let made = builder.expected_items(alloc, items);
+        sift_by(rt, request, made.map_err(GrowingError::Filter), output)
     } else if request.fixed {
         let builder = BloomFilter::with_false_pos(rate).seed(seed);
-        match builder.expected_items(alloc, items) {
-            Ok(mut filter) => return Ok(sift(rt, request, &mut filter, output)),
-            Err(refusal) => GrowingError::Filter(refusal),
-        }
+        let made = builder.expected_items(alloc, items);
+        sift_by(rt, request, made.map_err(GrowingError::Filter), output)
     } else {
-        match GrowingFilter::seeded(alloc, rate, items, seed) {
-            Ok(mut filter) => return Ok(sift(rt, request, &mut filter, output)),
-            Err(refusal) => refusal,
-        }
-    };
-    match refusal {
-        GrowingError::Filter(FilterError::Memory) => Ok(tell_no_room(rt, "out of memory")),
-        _ => Err("there is no filter for this many lines at this rate"),
+        let made = GrowingFilter::seeded(alloc, rate, items, seed);
+        sift_by(rt, request, made, output)
     }
 }
 
