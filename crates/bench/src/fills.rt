@@ -1,11 +1,10 @@
-//! A filter that workers fill, beside the same inserts by one thread. A round is timed from its
-//! start to the whole filter, so threads, memory and unions count.
+//! A filter that workers fill. A round is timed from its start to the whole filter, so threads,
+//! memory and unions count.
 
-use crate::filters::filter_for;
 use crate::keys::hash_of;
 use crate::plan::Unit;
 use crate::table::{Made, Measured, Rows};
-use fastbloom::{BloomFilter, FilterError, Gate, Shape, fill};
+use fastbloom::{Gate, Shape, fill};
 use std::alloc::{AllocError, Global};
 use std::mem;
 use std::sync::Arc;
@@ -34,37 +33,14 @@ fn parts_of(alloc: Global, keys: u64, parts: u64) -> Result<Vec<Vec<u64>>, Alloc
     Ok(cut)
 }
 
-#[inline(never)]
-fn insert_all(filter: &mut BloomFilter, hashes: &Vec<u64>) {
-    'hashes: for hash in hashes {
-        filter.insert_hash(*hash);
-    }
-}
-
-/// Who fills a filter: one thread, or workers.
-#[derive(Clone, Copy)]
-pub enum Call {
-    Alone,
-    Fill,
-}
-
-/// The rows of one thread, and of one, two and four workers.
-pub const TABLE: [Rows<Call>; 2] = [
-    (
-        Call::Alone,
-        "inserts by one thread",
-        &[1],
-        Unit::Key,
-        "found after it",
-    ),
-    (
-        Call::Fill,
-        "fill by workers:",
-        &[1, 2, 4],
-        Unit::Key,
-        "found after it",
-    ),
-];
+/// The rows of one, two and four workers.
+pub const TABLE: [Rows<()>; 1] = [(
+    (),
+    "fill by workers:",
+    &[1, 2, 4],
+    Unit::Key,
+    "found after it",
+)];
 
 /// The hashes of the keys, in a part for each worker.
 #[derive(Drop)]
@@ -75,30 +51,19 @@ pub struct Calls<'a, R> {
 }
 
 impl<'a, R: AllocGlobal + Threads> Measured for Calls<'a, R> {
-    type Call = Call;
+    type Call = ();
 
-    fn prepare(&mut self, _call: Call, workers: u32, _round: u32) -> anyhow::Result<()> {
+    fn prepare(&mut self, _call: (), workers: u32, _round: u32) -> anyhow::Result<()> {
         self.parts = parts_of(self.rt.alloc(), self.keys as u64, workers as u64)?;
         Ok(())
     }
 
-    fn make(&mut self, call: Call, _workers: u32, _round: u32) -> anyhow::Result<Made> {
+    fn make(&mut self, _call: (), _workers: u32, _round: u32) -> anyhow::Result<Made> {
         let alloc = self.rt.alloc();
-        let filter = match call {
-            Call::Alone => {
-                let mut filter = filter_for(alloc, self.keys, 7)?;
-                if let Some(hashes) = self.parts.first() {
-                    insert_all(&mut filter, hashes);
-                }
-                filter
-            }
-            Call::Fill => {
-                let shape = Shape::new((self.keys as usize * 10).max(1), 7)?;
-                let gate = Arc::new(alloc, Open)?;
-                let parts = mem::replace(&mut self.parts, Vec::new(alloc));
-                fill(self.rt, alloc, gate, shape, parts)?
-            }
-        };
+        let shape = Shape::new((self.keys as usize * 10).max(1), 7)?;
+        let gate = Arc::new(alloc, Open)?;
+        let parts = mem::replace(&mut self.parts, Vec::new(alloc));
+        let filter = fill(self.rt, alloc, gate, shape, parts)?;
         Ok(Made::Filled(filter, self.keys as u64))
     }
 }

@@ -1,11 +1,8 @@
 //! The filters that are measured.
 ghost use Rattle.std.specs.Prelude.{◌≡◌, ◌*◌, All, IfErr, IfOk, max, replicate};
-ghost use Rattle.fastbloom.specs.BlockedSizing.{line_words_for};
 ghost use Rattle.fastbloom.specs.Builders.{words_for};
 
-use fastbloom::{
-    AtomicBloomFilter, BlockedBloomFilter, BloomFilter, FilterError, Pass, SeatedBloomFilter,
-};
+use fastbloom::{AtomicBloomFilter, BloomFilter, FilterError, Pass, SeatedBloomFilter};
 use std::alloc::{AllocError, Global};
 
 /// How many words a filter with ten bits for each key has, and one at least.
@@ -30,21 +27,6 @@ pub fn filter_for(alloc: Global, keys: u32, num_hashes: u32) -> Result<BloomFilt
     ensures refused { IfErr result (λ error. error ≡ FilterError.Memory) }
 {
     let builder = BloomFilter::with_num_bits(alloc, (keys as usize * 10).max(1))?;
-    Ok(builder.hashes(num_hashes))
-}
-
-/// An empty blocked filter with ten bits for each key, and a line at least.
-pub fn blocked_filter_for(
-    alloc: Global,
-    keys: u32,
-    num_hashes: u32,
-) -> Result<BlockedBloomFilter, FilterError>
-    ensures words { IfOk result (λ filter.
-        filter.words ≡ replicate (line_words_for (max 1 (keys * 10))) 0) }
-    ensures hashes { IfOk result (λ filter. filter.hashes ≡ max 1 num_hashes) }
-    ensures refused { IfErr result (λ error. error ≡ FilterError.Memory) }
-{
-    let builder = BlockedBloomFilter::with_num_bits(alloc, (keys as usize * 10).max(1))?;
     Ok(builder.hashes(num_hashes))
 }
 

@@ -5,7 +5,6 @@
 //! best round tells what one operation costs.
 #![tactic(auto)]
 
-mod blocked;
 mod fills;
 mod filters;
 mod keys;
@@ -25,19 +24,12 @@ use table::measure_rows;
 #[derive(Clone, Copy)]
 enum Part {
     Plain,
-    Blocked,
     Shared,
     Threads,
     Fills,
 }
 
-const PARTS: [Part; 5] = [
-    Part::Plain,
-    Part::Blocked,
-    Part::Shared,
-    Part::Threads,
-    Part::Fills,
-];
+const PARTS: [Part; 4] = [Part::Plain, Part::Shared, Part::Threads, Part::Fills];
 
 // The second handle is the first again, seen as one that has threads, which only `main` can do.
 fn measure_part<R: AllocGlobal + Threads>(
@@ -49,7 +41,6 @@ fn measure_part<R: AllocGlobal + Threads>(
     let (alloc, keys) = (rt.alloc(), plan.keys);
     match part {
         Part::Plain => measure_rows(rt, plan, plain::calls_for(alloc, keys), &plain::TABLE),
-        Part::Blocked => measure_rows(rt, plan, blocked::calls_for(alloc, keys), &blocked::TABLE),
         Part::Shared => measure_rows(rt, plan, shared::calls_for(alloc, keys), &shared::TABLE),
         Part::Threads => {
             measure_rows(
