@@ -1,4 +1,4 @@
--- Heads of files, as C gives and takes them. The form of a file is that of `bloom_plain`.
+-- Heads of files, as C gives and takes them. The form of a file is that of `bloom_files`.
 use Rattle.std.specs.Prelude.{ℕ, ◌%◌, ◌^◌, max, List, Option, Some, None, nat_eq, nat_le, if◌then◌else◌}
 use Rattle.bloom_parts.specs.Keys.{key_low, key_high}
 use Rattle.bloom_files.specs.declared.head.Head.{Head}
