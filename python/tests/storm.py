@@ -1,20 +1,8 @@
-"""Threads that change one filter at once: `storm.py` prints what each case lost, which is nothing.
+"""Threads that change one filter at once: `storm.py` prints what each case lost, which is nothing."""
 
-`--let-go` takes each call of the library by ctypes.CDLL, so that calls run at once, as they do in
-an interpreter with no global lock: then items are lost. `--own-locks` makes the package believe
-that there is no global lock: then each filter has a lock of its own, and none is lost either way.
-"""
-
-import ctypes
-import sys
 import threading
 
-if "--let-go" in sys.argv:
-    ctypes.PyDLL = ctypes.CDLL
-if "--own-locks" in sys.argv:
-    sys._is_gil_enabled = lambda: False
-
-from fastbloom import Filter  # noqa: E402
+from fastbloom import Filter
 
 ITEMS = [b"%d" % number for number in range(20_000)]
 

@@ -11,11 +11,9 @@ import typing
 import unittest
 from decimal import Decimal, localcontext
 from fractions import Fraction
-from unittest import mock
 
 import fastbloom
 from fastbloom import Estimate, Filter, Refusal
-from fastbloom import _library as library
 
 try:
     import numpy
@@ -238,18 +236,6 @@ class Many(unittest.TestCase):
             answers = seen.contains_many(iter(items))
             self.assertEqual(answers, [item in seen for item in items])
             self.assertTrue(all(type(answer) is bool for answer in answers))
-
-    def test_a_look_up_of_many_is_one_call_for_each_4096(self):
-        calls, seen = [], small()
-        found = library.PLAIN.contains_hashes
-
-        def told(*arguments):
-            calls.append(arguments[4])
-            return found(*arguments)
-
-        with mock.patch.object(library.PLAIN, "contains_hashes", told):
-            seen.contains_many(f"item{number}" for number in range(10_000))
-        self.assertEqual(calls, [4096, 4096, 10_000 - 2 * 4096])
 
     def test_what_is_raised_on_the_way_comes_through(self):
         def items():

@@ -1,7 +1,6 @@
 """Many items, many hashes, and sets of filters at once."""
 
 import array
-import ctypes
 import inspect
 import math
 import pickle
@@ -10,7 +9,6 @@ import sys
 import typing
 import unittest
 from fractions import Fraction
-from unittest import mock
 
 import fastbloom
 from fastbloom import (
@@ -22,8 +20,6 @@ from fastbloom import (
     SharedBlockedFilter,
     SharedFilter,
 )
-from fastbloom import _library as library
-from fastbloom._many import words_of
 
 try:
     import numpy
@@ -110,14 +106,10 @@ class Masks(unittest.TestCase):
 
 
 class Hashes(unittest.TestCase):
-    def test_words_that_are_not_aligned_are_copied(self):
-        """The library is handed addresses that are multiples of 8, as its header wants."""
+    def test_words_that_are_not_aligned_are_taken(self):
         for first in range(8):
             view = memoryview(bytearray(24))[first : first + 16].cast("Q")
             view[0], view[1] = 5, 2**64 - 1
-            words, count = words_of(view)
-            self.assertEqual((ctypes.addressof(words) % 8, count), (0, 2))
-            self.assertEqual(list(words), [5, 2**64 - 1])
             seen = small()
             self.assertEqual(seen.add_hashes_tell_new(view), [True, True])
             self.assertTrue(seen.contains_hash(5) and seen.contains_hash(2**64 - 1))
@@ -167,30 +159,6 @@ class Hashes(unittest.TestCase):
         self.assertEqual(empty.contains_hashes(array.array("Q")), [])
         self.assertEqual(empty.add_hashes_tell_new(array.array("Q")), [])
         self.assertEqual(empty, small())
-
-    def test_no_null_pointer_reaches_the_library(self):
-        """The library asks for an address also where there is nothing."""
-
-        def raising():
-            raise KeyError
-            yield "crab"
-
-        pointers = []
-
-        def call(*arguments):
-            pointers.append(arguments[-2])
-            return True
-
-        for cls in (Filter, SharedFilter, BlockedFilter, SharedBlockedFilter):
-            seen = cls(10, "1/1000")
-            names = ("contains_hashes", "insert_hashes_tell_new")
-            with mock.patch.multiple(seen._calls, **dict.fromkeys(names, call)):
-                self.assertEqual(seen.contains_hashes(array.array("Q")), [])
-                self.assertEqual(seen.add_hashes_tell_new(array.array("Q")), [])
-                self.assertRaises(KeyError, seen.contains_many, raising())
-        self.assertEqual(len(pointers), 12)
-        for pointer in pointers:
-            self.assertTrue(pointer is not None and ctypes.addressof(pointer))
 
     def test_other_buffers_are_refused(self):
         others = [
@@ -249,19 +217,6 @@ class Items(unittest.TestCase):
                 self.assertEqual(many.count_ones(), one.count_ones())
                 self.assertEqual(many.contains_many(items), [True] * len(items))
             self.assertEqual(one.load(), many.load())
-
-    def test_a_part_is_hashed_by_one_call(self):
-        calls, hash_items = [], library.hash_items
-
-        def told(*arguments):
-            calls.append(arguments[-1])
-            return hash_items(*arguments)
-
-        for seen in (small(), shared()):
-            calls.clear()
-            with mock.patch.object(library, "hash_items", told):
-                seen.update(f"item{number}" for number in range(10_000))
-            self.assertEqual(calls, [4096, 4096, 10_000 - 2 * 4096])
 
     def test_what_came_before_an_error_is_added(self):
         def raising():

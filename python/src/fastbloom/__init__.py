@@ -19,7 +19,7 @@ from ._checks import Estimate, Refusal
 from ._filter import Filter
 from ._mask import Mask
 from ._protocols import AnyFilter
-from ._rotating import RotatingFilter
+from ._several import GrowingFilter, RotatingFilter
 from ._shared import SharedBlockedFilter, SharedFilter
 
 __version__ = "0.17.0+rattle.1"
@@ -28,6 +28,7 @@ __all__ = [
     "BlockedFilter",
     "Estimate",
     "Filter",
+    "GrowingFilter",
     "Mask",
     "Refusal",
     "RotatingFilter",

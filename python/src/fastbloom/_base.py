@@ -2,17 +2,14 @@
 
 from __future__ import annotations
 
-import ctypes
 import math
 import typing
 from fractions import Fraction
 from typing import TYPE_CHECKING, Any, Callable, ClassVar, Generic, Iterable, TypeVar, Union
 
-from . import _library as library
-from ._checks import Estimate, check, check_told, hash_value, number_of_items, rate_parts
-from ._items import Buffer, Item, Rate, bytes_of, check_many, plain_bytes
-from ._locks import alone, alone_with
-from ._many import Hashes, each_part, told, words_of
+from . import _core
+from ._checks import EMPTY_WORDS, Estimate, Refusal, number_of_items, rate_parts, unless_refused
+from ._items import Buffer, Item, Rate, check_many, plain_bytes
 from ._mask import Mask
 from ._rates import rounded_outward
 
@@ -24,37 +21,31 @@ else:  # for typing.get_type_hints, also before Python 3.11
 Kind = TypeVar("Kind", bound="Base[Any]")  # the class of the filters that one takes in
 
 
-def bounds_of(call: Callable[..., Any]) -> tuple[Fraction, Fraction]:
-    """Two fractions of 2^63 that a call writes, which returns a reason or whether it did."""
-    low, high = ctypes.c_uint64(), ctypes.c_uint64()
-    check_told(call(low, high))
-    return Fraction(low.value, 2**63), Fraction(high.value, 2**63)
+BLOCKED, SHARED = 1, 2  # what the number of a kind has, beside 0
 
 
-def estimate_of(call: Callable[..., bool]) -> Estimate:
-    """The two bounds that a call writes. The greatest number stands for no upper bound."""
-    low, high = ctypes.c_size_t(), ctypes.c_size_t()
-    check_told(call(low, high))
-    return Estimate(low.value, None if high.value == 2**64 - 1 else high.value)
+def fractions_of(bounds: Any) -> tuple[Fraction, Fraction]:
+    """Two bounds of a rate, in units of 2^63. A number is the reason why there are none."""
+    low, high = unless_refused(EMPTY_WORDS if bounds is None else bounds)
+    return Fraction(low, 2**63), Fraction(high, 2**63)
 
 
-class Base(Generic[Kind]):
+def estimate_of(bounds: Any) -> Estimate:
+    """Two bounds of a number of items. The greatest number stands for no upper bound."""
+    low, high = unless_refused(EMPTY_WORDS if bounds is None else bounds)
+    return Estimate(low, None if high == 2**64 - 1 else high)
+
+
+class Base(_core.Core, Generic[Kind]):
     """What all kinds of filters have. `Filter` says what an item is."""
 
-    __slots__ = ("_view", "_words", "_num_hashes", "_key", "_lock", "__weakref__")
-    _calls: ClassVar[library.Calls]
+    __slots__ = ("__weakref__",)
+    _number: ClassVar[int]  # of the kind: BLOCKED, SHARED, both or neither
     _kind: ClassVar[Any]  # the class of those that it takes in
     _unit: ClassVar[int]  # of so many bytes its words are made
-    _new_lock: ClassVar[Any]
     _new_memory: ClassVar[Any]  # memory of so many words, all of them clear
-    _words_in: ClassVar[Any]  # the words in a view, as the calls take them
     _copy: Callable[[], Any]  # a plain filter with its words, as they are at one instant, or loaded
     _now: Callable[[], Any]  # itself, or a plain filter with its words as they are loaded
-    _view: memoryview
-    _words: tuple[Any, ...]
-    _num_hashes: int
-    _key: bytes
-    _lock: Any
 
     def __init__(self, items: int, rate: Rate, key: Buffer = bytes(16)) -> None:
         """The empty filter for this many items, at a rate of false positives.
@@ -65,89 +56,32 @@ class Base(Generic[Kind]):
         and too large a filter MemoryError.
         """
         items = number_of_items(items)
-        words, hashes = ctypes.c_size_t(), ctypes.c_uint32()
-        check(self._calls.plan(*rate_parts(rate), items, words, hashes))
-        self._take(self._new_memory(words.value), hashes.value, key)
+        num_words, num_hashes = unless_refused(_core.plan(self._number, *rate_parts(rate), items))
+        self._fill(self._new_memory(num_words), num_hashes, key)
 
-    def _take(self, view: memoryview, num_hashes: int, key: Buffer) -> None:
-        """Takes the words that lie in a view, which keeps their memory where it is."""
+    def _fill(self, view: memoryview, num_hashes: int, key: Buffer) -> None:
+        """Has the words that lie in a view, which keeps their memory where it is."""
         key = plain_bytes(key, "a key is a bytes-like object")
         if len(key) != 16:
             raise ValueError("a key is sixteen bytes")
-        if hasattr(self, "_view"):  # a call under way may use the words that it has
-            raise TypeError("a filter is made once")
-        self._words = self._words_in(view)
-        self._view, self._num_hashes, self._key = view, num_hashes, key
-        self._lock = self._new_lock()
+        self._take(view, num_hashes, key, self._number)
 
     @classmethod
     def _of(cls, view: memoryview, num_hashes: int, key: Buffer) -> Self:
         """The filter with the words in a view."""
         made = cls.__new__(cls)
-        made._take(view, num_hashes, key)
+        made._fill(view, num_hashes, key)
         return made
-
-    @property
-    def num_words(self) -> int:
-        """The number of words of 64 bits."""
-        return self._view.nbytes // 8
 
     @property
     def num_bits(self) -> int:
         """The number of bits."""
         return 64 * self.num_words
 
-    @property
-    def num_hashes(self) -> int:
-        """The number of positions that an item has."""
-        return self._num_hashes
-
-    @property
-    def key(self) -> bytes:
-        """The sixteen bytes of the key."""
-        return self._key
-
     def __repr__(self) -> str:
         """The size, and whether there is a key. The key itself isn't shown: it may be secret."""
-        key = "a key" if any(self._key) else "the zero key"
-        return f"<{type(self).__name__}: {self.num_bits} bits, {self._num_hashes} hashes, {key}>"
-
-    @alone
-    def add(self, item: Item) -> bool:
-        """Adds an item, and returns whether it was contained before.
-
-        True may be a false positive. In a shared filter, False comes exactly if this call set a
-        bit itself.
-        """
-        data = bytes_of(item)
-        return self._calls.insert(*self._words, self._num_hashes, self._key, data, len(data))
-
-    @alone
-    def __contains__(self, item: Item) -> bool:
-        """Whether an item is contained. False: it was never added. True may be a false positive.
-
-        In a shared filter, while no call clears bits, False means that no add of it had returned
-        when this call began.
-        """
-        data = bytes_of(item)
-        return self._calls.contains(*self._words, self._num_hashes, self._key, data, len(data))
-
-    def hash(self, item: Item) -> int:
-        """The hash of an item: SipHash-1-3 of its bytes under the key."""
-        data = bytes_of(item)
-        return library.hash_of(self._key, data, len(data))
-
-    @alone
-    def add_hash(self, value: int) -> bool:
-        """As `add`, by the hash. One out of range raises ValueError."""
-        value = hash_value(value)  # whose `__index__` may release the words
-        return self._calls.insert_hash(*self._words, self._num_hashes, value)
-
-    @alone
-    def contains_hash(self, value: int) -> bool:
-        """As `in`, by the hash. One out of range raises ValueError."""
-        value = hash_value(value)
-        return self._calls.contains_hash(*self._words, self._num_hashes, value)
+        key = "a key" if any(self.key) else "the zero key"
+        return f"<{type(self).__name__}: {self.num_bits} bits, {self.num_hashes} hashes, {key}>"
 
     # Many items
 
@@ -162,64 +96,30 @@ class Base(Generic[Kind]):
             self._check_other(other)
         for other in others:
             if isinstance(other, self._kind):
-                self._change(other, self._calls.union)
+                self._change(other, self._unite)
             else:
-                each_part(other, self._key, "add", self._add_hashed)  # type: ignore[arg-type]
-
-    @alone
-    def _add_hashed(self, hashes: Hashes) -> None:
-        self._calls.insert_hashes(*self._words, self._num_hashes, *hashes)
+                self._add_items(other)
 
     def contains_many(self, items: Iterable[Item]) -> list[bool]:
         """Whether each item of an iterable is contained, in their order, many by one call.
 
         An item that is refused, and a single `str` or bytes-like object, raise as in `update`.
         """
-        answers: list[bool] = []
-
-        def ask(hashes: Hashes) -> None:
-            answers.extend(self._tell(self._calls.contains_hashes, hashes).tolist())
-
-        each_part(items, self._key, "in", ask)
-        return answers
-
-    def add_hashes(self, hashes: Buffer) -> None:
-        """Adds each hash of a buffer of words of 64 bits, as of an array, by one call.
-
-        Such a buffer is an `array("Q")`, an array of numpy of kind `uint64`, or a view of one. Any
-        other raises TypeError. What can't be written, or isn't aligned to eight, is copied first.
-        Threads that call it of a shared filter, with buffers of their own, run side by side. No
-        thread changes the buffer meanwhile.
-        """
-        self._add_hashed(words_of(hashes))
+        check_many(items, "in")
+        return self._contains_items(items)
 
     def contains_hashes(self, hashes: Buffer) -> Mask:
         """Whether each hash of a buffer of words of 64 bits is contained, by one call."""
-        return self._tell(self._calls.contains_hashes, words_of(hashes))
+        return Mask(*self._contains_hashes(hashes))
 
     def add_hashes_tell_new(self, hashes: Buffer) -> Mask:
         """Adds each hash of a buffer of words of 64 bits, and tells which of the adds set a bit.
 
         They are added one after the other, so a hash that comes twice is new once at most.
         """
-        return self._tell(self._calls.insert_hashes_tell_new, words_of(hashes))
+        return Mask(*self._add_hashes_tell_new(hashes))
 
-    @alone
-    def _tell(self, call: Callable[..., bool], hashes: Hashes) -> Mask:
-        """Makes a call on hashes that tells of each by a bit."""
-        return told(call, (*self._words, self._num_hashes), hashes)
-
-    # All words. Of a shared filter, they are read and changed one after the other.
-
-    @alone
-    def clear(self) -> None:
-        """Removes every item."""
-        self._calls.clear(*self._words)
-
-    @alone
-    def count_ones(self) -> int:
-        """How many of its bits are set."""
-        return self._calls.count_ones(*self._words)
+    # Rates and numbers of items. A shared filter's words are read one after the other.
 
     def exact_expected_false_positive_rate(self, items: int) -> tuple[Fraction, Fraction]:
         """Two bounds of the mean rate of false positives once it has this many items.
@@ -230,8 +130,8 @@ class Base(Generic[Kind]):
         floats, to a part of 10^12, and the others are proved. A number of items below 0, or of 2^64
         and more, raises ValueError, and another type TypeError.
         """
-        shape = self.num_words, self._num_hashes, number_of_items(items)
-        return bounds_of(lambda low, high: self._calls.rate_bounds(*shape, low, high))
+        shape = self.num_words, self.num_hashes, number_of_items(items)
+        return fractions_of(_core.rate_bounds(self._number, *shape))
 
     def expected_false_positive_rate(self, items: int) -> tuple[float, float]:
         """`exact_expected_false_positive_rate` as two floats, rounded outward."""
@@ -243,9 +143,9 @@ class Base(Generic[Kind]):
         With one item more, a bound of `exact_expected_false_positive_rate` is above the rate. What
         is refused as a rate raises as in the constructor.
         """
-        return self._calls.capacity(self.num_words, self._num_hashes, *rate_parts(rate))
+        shape = self.num_words, self.num_hashes
+        return _core.capacity(self._number, *shape, *rate_parts(rate))
 
-    @alone
     def estimate(self) -> Estimate:
         """Two bounds of the number of items in it. The upper one is None where all bits are set.
 
@@ -253,8 +153,7 @@ class Base(Generic[Kind]):
         of how far the number of items that were added may lie from it. The bounds are proved; those
         of a blocked filter are computed by floats instead.
         """
-        shape = *self._words, self._num_hashes
-        return estimate_of(lambda low, high: self._calls.estimate(*shape, low, high))
+        return estimate_of(self._estimate())
 
     @property
     def approx_items(self) -> float:
@@ -262,15 +161,13 @@ class Base(Generic[Kind]):
         low, high = self.estimate()
         return math.inf if high is None else (low + high) / 2
 
-    @alone
     def exact_false_positive_rate(self) -> tuple[Fraction, Fraction]:
         """Two bounds of the rate of false positives of the filter as it is.
 
         It is the part of all look-ups that return True, where each position is drawn alike, and of
         a blocked filter the line. The bounds are proved, and are fractions of 2^63.
         """
-        shape = *self._words, self._num_hashes
-        return bounds_of(lambda low, high: self._calls.rate_now(*shape, low, high))
+        return fractions_of(self._rate_now())
 
     def false_positive_rate(self) -> tuple[float, float]:
         """`exact_false_positive_rate` as two floats, rounded outward."""
@@ -298,14 +195,10 @@ class Base(Generic[Kind]):
             if getattr(self, name) != getattr(other, name):
                 raise ValueError(f"the filters differ in {name}")
 
-    @alone_with
-    def _with(self, other: Any, call: Callable[..., bool], *more: Any) -> bool:
-        return call(*self._words, *other._words, *more)
-
-    def _with_now(self, other: Kind, call: Callable[..., bool], *to: Any) -> bool:
-        """Has a call write two bounds for this filter and another one, as they are."""
+    def _both(self, other: Kind) -> tuple[Any, Any]:
+        """This filter and another one that fits, as they are now."""
         self._check_kind(other)
-        return bool(self._now()._with(other._now(), call, self._num_hashes, *to))
+        return self._now(), other._now()
 
     def estimated_union(self, other: Kind) -> Estimate:
         """Two bounds of the number of items in the union, which isn't made: as `estimate`.
@@ -313,7 +206,8 @@ class Base(Generic[Kind]):
         A filter of another size, number of hashes or key raises ValueError, and what is no filter
         of this kind TypeError.
         """
-        return estimate_of(lambda *to: self._with_now(other, self._calls.estimate_union, *to))
+        this, that = self._both(other)
+        return estimate_of(this._estimate_union(that))
 
     def estimated_common(self, other: Kind) -> Estimate:
         """Two bounds of the number of items that both have in common.
@@ -321,7 +215,8 @@ class Base(Generic[Kind]):
         It is what both have together, less what their union has, each as `estimate` tells it. The
         upper bound is None where one of the two has none. It raises as `estimated_union`.
         """
-        return estimate_of(lambda *to: self._with_now(other, self._calls.estimate_common, *to))
+        this, that = self._both(other)
+        return estimate_of(this._estimate_common(that))
 
     def jaccard(self, other: Kind) -> tuple[Fraction, Fraction]:
         """Two bounds of the part of all items of both that they have in common, from 0 to 1.
@@ -329,13 +224,14 @@ class Base(Generic[Kind]):
         It is the part of `estimated_common` in `estimated_union`. The bounds are fractions of 2^63:
         0 and 1 where nothing is known, as of two empty filters. It raises as `estimated_union`.
         """
-        return bounds_of(lambda *to: self._with_now(other, self._calls.jaccard, *to))
+        this, that = self._both(other)
+        return fractions_of(this._jaccard(that))
 
-    def _change(self, other: Any, call: Callable[..., bool]) -> None:
+    def _change(self, other: Any, call: Callable[[Any], bool]) -> None:
         """Changes this filter by another one. Where they don't fit, it raises ValueError."""
         self._check_shape(other)
         if other is not self:  # the library asks for words that lie apart
-            self._with(other, call)
+            call(other)
 
     def __ior__(self, other: Kind) -> Self:
         """Takes in what the other contains.
@@ -344,14 +240,14 @@ class Base(Generic[Kind]):
         """
         if not isinstance(other, self._kind):
             return NotImplemented
-        self._change(other, self._calls.union)
+        self._change(other, self._unite)
         return self
 
     def __iand__(self, other: Kind) -> Self:
         """Keeps what both may contain. It raises as `|=`."""
         if not isinstance(other, self._kind):
             return NotImplemented
-        self._change(other, self._calls.intersect)
+        self._change(other, self._intersect)
         return self
 
     def issubset(self, other: Kind) -> bool:
@@ -361,10 +257,7 @@ class Base(Generic[Kind]):
         of this kind TypeError.
         """
         self._check_kind(other)
-        # Other threads may add meanwhile: each is what it was at one instant.
-        before, united = other._copy(), self._copy()
-        united |= before
-        return bool(united == before)
+        return self._is_part(other)
 
     def issuperset(self, other: Kind) -> bool:
         """Whether it has all set bits of the other. It raises as `issubset`."""

@@ -2,8 +2,7 @@
 
 from __future__ import annotations
 
-from . import _library as library
-from ._base import Base, Kind
+from ._base import BLOCKED, Base, Kind
 from ._plain import Plain
 
 
@@ -29,7 +28,7 @@ class BlockedFilter(Lines["BlockedFilter"], Plain["BlockedFilter"]):
     """
 
     __slots__ = ()
-    _calls = library.BLOCKED
+    _number = BLOCKED
 
 
 BlockedFilter._kind = BlockedFilter

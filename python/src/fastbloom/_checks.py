@@ -2,15 +2,14 @@
 
 from __future__ import annotations
 
-import ctypes
 import operator
 import struct
 from decimal import Decimal
 from fractions import Fraction
 from numbers import Real
-from typing import Callable, NamedTuple, Optional
+from typing import Any, NamedTuple, Optional
 
-from . import _library as library
+from . import _core
 from ._items import Rate
 
 Limit = Optional[int]  # of what a reader takes
@@ -57,22 +56,11 @@ class Estimate(NamedTuple):
     high: Optional[int]
 
 
-def check(code: int) -> None:
-    if code:
-        raise Refusal(code)
-
-
-def check_told(told: int) -> None:
-    """Raises what a call returned that writes bounds: a reason, or False for no words."""
-    if told is not True:
-        check(EMPTY_WORDS if told is False else told)
-
-
-def hash_value(value: int) -> int:
-    value = operator.index(value)
-    if not 0 <= value < 2**64:
-        raise ValueError("a hash is from 0 to 2^64 - 1")
-    return value
+def unless_refused(told: Any) -> Any:
+    """What a call of the library tells, unless it is the number of a reason."""
+    if isinstance(told, int):
+        raise Refusal(told)
+    return told
 
 
 def number_of_items(items: int) -> int:
@@ -109,31 +97,22 @@ def rate_parts(rate: Rate) -> tuple[int, int]:
     return fraction.numerator, fraction.denominator
 
 
-def _read_head(head: bytes, call: Callable[..., int]) -> tuple[int, int, bytes, int]:
-    """The numbers of words and of hashes, the key and the seal that a head tells."""
-    words, hashes = ctypes.c_size_t(), ctypes.c_uint32()
-    key, seal = ctypes.create_string_buffer(16), ctypes.c_uint64()
-    check(call(head, words, hashes, key, seal))
-    return words.value, hashes.value, key.raw, seal.value
-
-
-def check_file(
-    head: bytes, size: int, calls: library.Calls, *limits: Limit
-) -> tuple[int, int, bytes, int]:
+def check_file(head: bytes, size: int, kind: int, *limits: Limit) -> tuple[int, int, bytes, int]:
     """What the first 64 bytes of a file of this size tell, if the file isn't refused for them.
 
-    `calls` are those on the kind of filters that is wanted. The limits are of hashes and of words.
+    They are the numbers of words and of hashes, the key and the seal. The limits are of hashes and
+    of words.
     """
     # Where the head is truncated, good numbers stand for those that it lacks. The last two, by
     # which the kinds differ, are read after the size.
     good = struct.pack("<8Q", 0, 1, 1, 0, 0, 0, 0, 0)
     there = min(len(head) // 8 * 8, 48)
-    wanted = HEAD + 8 * _read_head(head[:there] + good[there:], library.PLAIN.head_read)[0]
+    wanted = HEAD + 8 * unless_refused(_core.read_head(0, head[:there] + good[there:]))[0]
     if size > wanted:
         raise Refusal(_TOO_LONG)
     if size < wanted or len(head) < HEAD:  # a file that grows may have been short
         raise Refusal(CUT)
-    told = _read_head(head, calls.head_read)
+    told: tuple[int, int, bytes, int] = unless_refused(_core.read_head(kind, head))
     for name, found, most in zip(("hashes", "words"), told[1::-1], limits):
         if most is not None and found > most:
             raise ValueError(f"the file has {found} {name}, and max_{name} is {most}")

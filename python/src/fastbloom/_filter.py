@@ -4,8 +4,8 @@ from __future__ import annotations
 
 from fractions import Fraction
 
-from . import _library as library
-from ._base import Base, Kind, bounds_of
+from . import _core
+from ._base import Base, Kind, fractions_of
 from ._checks import number_of_items
 from ._plain import Plain
 
@@ -22,8 +22,8 @@ class Words(Base[Kind]):
         The formula is a little below the mean rate: see `exact_expected_false_positive_rate`. The
         bounds are proved, and are fractions of 2^63. It raises as that.
         """
-        shape = self.num_words, self._num_hashes, number_of_items(items)
-        return bounds_of(lambda low, high: library.expected_rate(*shape, low, high))
+        shape = self.num_words, self.num_hashes, number_of_items(items)
+        return fractions_of(_core.expected_rate(*shape))
 
 
 class Filter(Words["Filter"], Plain["Filter"]):
@@ -36,7 +36,7 @@ class Filter(Words["Filter"], Plain["Filter"]):
     """
 
     __slots__ = ()
-    _calls = library.PLAIN
+    _number = 0
 
 
 Filter._kind = Filter

@@ -25,13 +25,6 @@ _OF_ITEMS = re.compile(r"\d[sw]|O")
 _OF_POINTERS = re.compile("[OPXz&]|Z(?![fdg])")
 
 
-def bytes_of(item: Item) -> bytes:
-    """The bytes of an item."""
-    if isinstance(item, str):
-        return str.encode(item)
-    return plain_bytes(item, "an item is a str or a bytes-like object")
-
-
 def plain_bytes(value: Buffer, wanted: str) -> bytes:
     """The bytes of an object, whose class may not tell another length. It raises what is wanted."""
     if type(value) is bytes:

@@ -3,18 +3,15 @@
 from __future__ import annotations
 
 import copy
-import ctypes
 import pickle
 from typing import Any, Iterable, TypeVar, Union
 
-from . import _library as library
+from . import _core
 from ._base import Base, Kind, Self
-from ._checks import CUT, HEAD, SEAL, Limit, Refusal, check, check_file, number_of_hashes
+from ._checks import CUT, HEAD, SEAL, Limit, Refusal, check_file, number_of_hashes, unless_refused
 from ._files import Path, map_file, open_regular, size_of, write_file
 from ._items import Buffer, Item, plain_bytes
-from ._locks import alone, new_lock
 
-_LINE = 64  # bytes; a line of the cache has as many
 _Plain = TypeVar("_Plain", bound="Plain[Any]")
 
 
@@ -60,24 +57,11 @@ def _add_attributes(made: object, added: tuple[dict[str, Any], dict[str, Any]]) 
         setattr(made, name, value)
 
 
-def _new_memory(num_words: int) -> memoryview:
-    """Memory of this many words, all of them clear, from where a line of the cache begins."""
-    memory = memoryview(bytearray(8 * num_words + _LINE))
-    first = -ctypes.addressof(ctypes.c_char.from_buffer(memory)) % _LINE
-    return memory[first : first + 8 * num_words]
-
-
-def _words_in(view: memoryview) -> tuple[int, int]:
-    """The address of the words, and how many they are."""
-    return ctypes.addressof(ctypes.c_char.from_buffer(view)), view.nbytes // 8
-
-
 class Plain(Base[Kind]):
     """A filter whose calls come one after the other, as `Filter` says."""
 
     __slots__ = ()
-    _new_lock, _new_memory = staticmethod(new_lock), staticmethod(_new_memory)
-    _words_in = staticmethod(_words_in)
+    _new_memory = staticmethod(lambda num_words: memoryview(_core.Memory(num_words)))
 
     def __or__(self, other: Kind) -> Self:
         """A filter of what one of the two contains. It raises as `|=`."""
@@ -108,13 +92,13 @@ class Plain(Base[Kind]):
         for other in others:
             self._check_other(other)
         for fitting in list(map(self._as_filter, others)):
-            self._change(fitting, self._calls.intersect)
+            self._change(fitting, self._intersect)
 
     def _as_filter(self, other: Any) -> Any:
         """A filter, or that of items, with as many words and hashes as this one, and its key."""
         if isinstance(other, self._kind):
             return other
-        made = self._kind._of(self._new_memory(self.num_words), self._num_hashes, self._key)
+        made = self._kind._of(self._new_memory(self.num_words), self.num_hashes, self.key)
         made.update(other)
         return made
 
@@ -122,22 +106,18 @@ class Plain(Base[Kind]):
         """Whether words, numbers of hashes and keys are equal."""
         if not isinstance(other, self._kind):
             return NotImplemented
-        alike = (self._num_hashes, self._key) == (other._num_hashes, other._key)
-        return alike and self._with(other, library.equal)
+        alike = (self.num_hashes, self.key) == (other.num_hashes, other.key)
+        return alike and self._equal(other)
 
     __hash__ = None  # type: ignore[assignment]
-
-    @alone
-    def _copy_words(self, memory: memoryview) -> None:
-        memory[:] = self._view
 
     def _now(self) -> Self:
         return self
 
     def _copy(self) -> Self:
         view = self._new_memory(self.num_words)
-        self._copy_words(view)
-        return self._of(view, self._num_hashes, self._key)
+        view[:] = self._view
+        return self._of(view, self.num_hashes, self.key)
 
     def copy(self) -> Self:
         """A filter with words of its own, which are equal to these."""
@@ -165,7 +145,7 @@ class Plain(Base[Kind]):
         if protocol < 5 or type(self).__reduce__ is not Plain.__reduce__:
             return self.__reduce__()
         words = pickle.PickleBuffer(self._view.toreadonly())
-        made = type(self), self._num_hashes, self._key, words
+        made = type(self), self.num_hashes, self.key, words
         return _restored_words, made, _state_of(self)
 
     def __sizeof__(self) -> int:
@@ -183,19 +163,10 @@ class Plain(Base[Kind]):
         """The words, as a list of numbers."""
         return self._copy().view().tolist()
 
-    def _file(self, sealed: bool) -> bytearray:
-        """The bytes of the file, of the words as they are at one instant."""
-        file = bytearray(HEAD + self._view.nbytes)
-        self._copy_words(memoryview(file)[HEAD:])
-        at = ctypes.addressof(ctypes.c_char.from_buffer(file))
-        shape = self.num_words, self._num_hashes, self._key
-        seal = self._calls.seal(at + HEAD, *shape) if sealed else 0
-        check(self._calls.head_write(*shape, seal, at))
-        return file
-
     def to_bytes(self, sealed: bool = True) -> bytes:
         """The bytes of the file that `save` writes."""
-        return bytes(self._file(sealed))
+        file: bytes = unless_refused(self._to_bytes(sealed))
+        return file
 
     def save(self, path: Path, sealed: bool = True) -> None:
         """Writes a file, whole or not at all. It raises OSError where that fails.
@@ -204,7 +175,7 @@ class Plain(Base[Kind]):
         sealed file finds out whether a byte was changed. A file that is to be changed while others
         map it is not sealed.
         """
-        write_file(path, self._file(sealed))
+        write_file(path, self.to_bytes(sealed))
 
     @classmethod
     def from_bytes(cls, data: Buffer, *, max_hashes: Limit = 64, max_words: Limit = None) -> Self:
@@ -217,7 +188,7 @@ class Plain(Base[Kind]):
         only where it is made for a few items at a rate below 10^-13.
         """
         data = plain_bytes(data, "a file is a bytes-like object")
-        told = check_file(data[:HEAD], len(data), cls._calls, max_hashes, max_words)
+        told = check_file(data[:HEAD], len(data), cls._number, max_hashes, max_words)
         view = cls._new_memory(told[0])
         view[:] = memoryview(data)[HEAD:]
         return cls._read(view, *told[1:])
@@ -238,7 +209,7 @@ class Plain(Base[Kind]):
         """
         with open_regular(path) as file:
             head, size = file.read(HEAD), size_of(file)
-            told = check_file(head, size, cls._calls, max_hashes, max_words)
+            told = check_file(head, size, cls._number, max_hashes, max_words)
             if mapped:
                 view = memoryview(map_file(file, size))[HEAD:]
             else:
@@ -251,6 +222,6 @@ class Plain(Base[Kind]):
     def _read(cls, view: memoryview, num_hashes: int, key: bytes, seal: int) -> Self:
         """The filter of the words of a file, unless its seal is that of other ones."""
         read = cls._of(view, num_hashes, key)
-        if seal and seal != cls._calls.seal(*read._words, num_hashes, key):
+        if seal and seal != read._seal(True):
             raise Refusal(SEAL)
         return read

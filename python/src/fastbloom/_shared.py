@@ -2,12 +2,10 @@
 
 from __future__ import annotations
 
-import contextlib
 import mmap
 from typing import Any, Callable, ClassVar, Generic, NoReturn, TypeVar
 
-from . import _library as library
-from ._base import Base, Kind, Self
+from ._base import BLOCKED, SHARED, Base, Kind, Self
 from ._blocked import BlockedFilter, Lines
 from ._checks import EMPTY_WORDS, HEAD, TOO_MANY_WORDS, Limit, Refusal, check_file, number_of_hashes
 from ._files import Path, map_file, open_regular, shared_memory, size_of
@@ -31,9 +29,7 @@ class Shared(Base[Kind], Generic[Kind, OfWords]):
 
     __slots__ = ()
     _plain: ClassVar[type[Plain[Any]]]
-    _new_lock = staticmethod(contextlib.nullcontext)
     _new_memory = staticmethod(lambda num_words: memoryview(shared_memory(8 * num_words)))
-    _words_in = staticmethod(lambda view: (library.SharedWords(view),))
 
     @classmethod
     def over(cls, buffer: Buffer, num_hashes: int, key: Buffer = bytes(16)) -> Self:
@@ -57,7 +53,7 @@ class Shared(Base[Kind], Generic[Kind, OfWords]):
         """
         with open_regular(path, "r+b") as file:
             head, size = file.read(HEAD), size_of(file)
-            _, num_hashes, key, seal = check_file(head, size, cls._calls, max_hashes, max_words)
+            _, num_hashes, key, seal = check_file(head, size, cls._number, max_hashes, max_words)
             if seal:
                 raise ValueError("the file has a seal, which adds would make wrong")
             memory = map_file(file, size, mmap.ACCESS_WRITE)
@@ -70,11 +66,9 @@ class Shared(Base[Kind], Generic[Kind, OfWords]):
                 raise Refusal(EMPTY_WORDS)
             if view.nbytes // 8 >= 2**58:
                 raise Refusal(TOO_MANY_WORDS)
+            if view.nbytes % cls._unit:
+                raise ValueError(f"words are of eight bytes, in units of {cls._unit}")
             made = cls._of(view, num_hashes, key)
-            if view.nbytes % cls._unit or made._words[0].words % 8:
-                raise ValueError(
-                    f"words are of eight bytes, aligned to eight, in units of {cls._unit}"
-                )
         except BaseException:
             view.release()  # or the error would keep the memory in use
             raise
@@ -86,8 +80,7 @@ class Shared(Base[Kind], Generic[Kind, OfWords]):
         The filter then has no words: it contains nothing, and keeps nothing that is added. `load`
         and `take` raise Refusal. The buffer can be closed once no call is under way.
         """
-        self._view = memoryview(b"")
-        self._words = self._words_in(self._view)
+        self._release(memoryview(b""))
 
     def take(self) -> OfWords:
         """Takes the items out into a plain filter.
@@ -95,21 +88,21 @@ class Shared(Base[Kind], Generic[Kind, OfWords]):
         Each word is read and cleared by one operation, so no bit that another thread or process
         sets meanwhile is lost: it is either taken or still there.
         """
-        return self._copied(library.shared_take)
+        return self._copied(self._take_into)
 
     def load(self) -> OfWords:
         """A plain filter with the words as they are loaded, one after the other, as for a file."""
-        return self._copied(library.shared_load)
+        return self._copied(self._load_into)
 
     _copy = _now = load
 
-    def _copied(self, call: Callable[..., bool]) -> OfWords:
-        (words,) = self._words
-        if words.num_words == 0:  # it was released
+    def _copied(self, copy: Callable[[Any], bool]) -> OfWords:
+        num_words = self.num_words
+        plain: Any = self._plain._of(
+            self._plain._new_memory(num_words), self.num_hashes, self.key
+        )
+        if not copy(plain):  # it was released
             raise Refusal(EMPTY_WORDS)
-        view = self._plain._new_memory(words.num_words)
-        plain: Any = self._plain._of(view, self._num_hashes, self._key)
-        call(words, *plain._words)
         return plain  # type: ignore[no-any-return]
 
     def __or__(self, other: Kind) -> OfWords:
@@ -134,7 +127,7 @@ class SharedFilter(Words["SharedFilter"], Shared["SharedFilter", Filter]):
     """A filter that threads and processes fill; a `Filter` is quicker where one thread adds."""
 
     __slots__ = ()
-    _calls, _plain = library.SHARED, Filter
+    _number, _plain = SHARED, Filter
 
 
 class SharedBlockedFilter(
@@ -146,7 +139,7 @@ class SharedBlockedFilter(
     """
 
     __slots__ = ()
-    _calls, _plain = library.BLOCKED_SHARED, BlockedFilter
+    _number, _plain = BLOCKED | SHARED, BlockedFilter
 
 
 SharedFilter._kind, SharedBlockedFilter._kind = SharedFilter, SharedBlockedFilter
