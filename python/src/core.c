@@ -10,12 +10,17 @@
 #define FASTBLOOM_NO_WRAPPERS
 #include "fastbloom.h"
 
+#include <errno.h>
 #include <stdlib.h>
 #include <string.h>
+#include <unistd.h>
 
-/* Bytes of a key, of a file's head and of a line of the cache; how many hashes one call takes; and
- * from how many on it is worth to give up the interpreter's lock. */
+/* Bytes of a key, of a file's head and of a line of the cache; how many hashes or words one call
+ * takes; and from how many on it is worth to give up the interpreter's lock. */
 enum { KEY = 16, HEAD = 64, LINE = 64, AT_ONCE = 4096, WORTH_IT = 256 };
+
+/* How many bytes of a head the seal is of, and where the layout stands that a blocked filter has. */
+enum { SEALED = 40, LAYOUT = 48 };
 
 /* A kind of filters is a number of two bits. */
 enum { BLOCKED = 1, SHARED = 2, KINDS = 4 };
@@ -36,7 +41,7 @@ typedef struct calls {
     bool (*insert_hashes_tell_new)(fastbloom_shared, uint32_t, const uint64_t *, size_t, uint64_t *,
                                    size_t);
     bool (*rate_now)(fastbloom_shared, uint32_t, uint64_t *, uint64_t *);
-    bool (*estimate)(fastbloom_shared, uint32_t, size_t *, size_t *);
+    bool (*estimate)(fastbloom_shared, uint32_t, uint64_t *, uint64_t *);
     bool (*clear)(fastbloom_shared);
     bool (*unite)(fastbloom_shared, fastbloom_shared);
     bool (*intersect)(fastbloom_shared, fastbloom_shared);
@@ -70,8 +75,8 @@ typedef struct calls {
                                        uint64_t *high) {                                           \
         return fastbloom_##kind##rate_now(of.words, of.num_words, k, low, high);                   \
     }                                                                                              \
-    static bool plain_##kind##estimate(fastbloom_shared of, uint32_t k, size_t *low,               \
-                                       size_t *high) {                                             \
+    static bool plain_##kind##estimate(fastbloom_shared of, uint32_t k, uint64_t *low,             \
+                                       uint64_t *high) {                                           \
         return fastbloom_##kind##estimate(of.words, of.num_words, k, low, high);                   \
     }
 ON_PLAIN_WORDS()
@@ -104,6 +109,22 @@ static const calls CALLS_OF[KINDS] = {
     CALLS(fastbloom_shared_, fastbloom_shared_, fastbloom_shared_union),
     CALLS(fastbloom_blocked_shared_, fastbloom_shared_, fastbloom_shared_union),
 };
+
+/* The calls on sizes and files of filters, of those that aren't blocked and of those that are. */
+typedef struct sizes {
+    uint8_t (*plan)(uint64_t, uint64_t, size_t, size_t *, uint32_t *);
+    uint8_t (*rate_bounds)(size_t, uint32_t, size_t, uint64_t *, uint64_t *);
+    size_t (*capacity)(size_t, uint32_t, uint64_t, uint64_t);
+    uint64_t (*seal)(const uint64_t *, size_t, uint32_t, const uint8_t *);
+    uint8_t (*head_write)(size_t, uint32_t, const uint8_t *, uint64_t, uint8_t *);
+    uint8_t (*head_read)(const uint8_t *, size_t *, uint32_t *, uint8_t *, uint64_t *);
+} sizes;
+
+static const sizes SIZES[] = {{fastbloom_plan, fastbloom_rate_bounds, fastbloom_capacity,
+                               fastbloom_seal, fastbloom_head_write, fastbloom_head_read},
+                              {fastbloom_blocked_plan, fastbloom_blocked_rate_bounds,
+                               fastbloom_blocked_capacity, fastbloom_blocked_seal,
+                               fastbloom_blocked_head_write, fastbloom_blocked_head_read}};
 
 /* Does what touches nothing of Python's, without the interpreter's lock where this is worth it. */
 #define UNLOCKED_IF(is_worth_it, work)                                                             \
@@ -144,7 +165,7 @@ static int memory_lend(PyObject *self, Py_buffer *view, int flags) {
 static void memory_free(PyObject *self) {
     PyTypeObject *type = Py_TYPE(self);
     free(((memory *)self)->block);
-    ((freefunc)PyType_GetSlot(type, Py_tp_free))(self);
+    PyObject_Free(self);
     Py_DECREF(type);
 }
 
@@ -234,7 +255,7 @@ static void filter_free(PyObject *self) {
     PyTypeObject *type = Py_TYPE(self);
     PyObject_GC_UnTrack(self);
     filter_clear(self);
-    ((freefunc)PyType_GetSlot(type, Py_tp_free))(self);
+    PyObject_GC_Del(self);
     Py_DECREF(type);
 }
 
@@ -500,32 +521,6 @@ static PyObject *filter_count_ones(PyObject *self, PyObject *unused) {
     return PyLong_FromSize_t(ones);
 }
 
-/* Two bounds of the rate or, where it estimates, of the number of items, or None without words. */
-static PyObject *bounds_of(filter *it, bool estimates) {
-    fastbloom_shared words;
-    Py_buffer held;
-    uint64_t low = 0, high = 0;
-    size_t least = 0, most = 0;
-    bool told = false;
-    if (!is_made(it) || hold(it, &held, &words)) return NULL;
-    UNLOCKED_IF(is_worth_it(it, words.num_words),
-                told = estimates ? it->call->estimate(words, it->num_hashes, &least, &most)
-                                 : it->call->rate_now(words, it->num_hashes, &low, &high));
-    if (held.obj != NULL) PyBuffer_Release(&held);
-    if (!told) Py_RETURN_NONE;
-    return estimates ? pair(least, most) : pair(low, high);
-}
-
-static PyObject *filter_rate_now(PyObject *self, PyObject *unused) {
-    (void)unused;
-    return bounds_of((filter *)self, false);
-}
-
-static PyObject *filter_estimate(PyObject *self, PyObject *unused) {
-    (void)unused;
-    return bounds_of((filter *)self, true);
-}
-
 /* The other filter of a call, of this kind or, where `plain` is set, the plain one of it. */
 static filter *other_of(const filter *it, PyObject *other, bool plain) {
     unsigned kind = plain ? it->kind & ~(unsigned)SHARED : it->kind;
@@ -585,32 +580,38 @@ static PyObject *filter_is_part(PyObject *self, PyObject *from) {
     return with_other((filter *)self, from, is_part);
 }
 
-/* Two bounds of items in two plain filters, or of the part that both have. */
-typedef bool (*of_two)(const uint64_t *, size_t, const uint64_t *, size_t, uint32_t, uint64_t *,
-                       uint64_t *);
+/* What two bounds are of. Those of two filters are of plain ones. */
+enum { RATE, ITEMS, UNION, COMMON, PART, BOUNDS };
 _Static_assert(sizeof(size_t) == sizeof(uint64_t), "a bound has 64 bits");
 
-static PyObject *bounds_of_two(PyObject *self, PyObject *from, of_two plain, of_two blocked) {
-    const filter *it = (filter *)self, *other = other_of(it, from, false);
-    uint64_t low, high;
-    if (other == NULL) return NULL;
-    if (!(it->kind & BLOCKED ? blocked : plain)(it->words.words, it->words.num_words,
-                                                other->words.words, other->words.num_words,
-                                                it->num_hashes, &low, &high))
-        Py_RETURN_NONE;
+/* _bounds(what[, other]): two bounds, or None where there are no words. */
+static PyObject *filter_bounds(PyObject *self, PyObject *arguments) {
+    static bool (*const of_two[BOUNDS][2])(const uint64_t *, size_t, const uint64_t *, size_t,
+                                           uint32_t, uint64_t *, uint64_t *) = {
+        [UNION] = {fastbloom_estimate_union, fastbloom_blocked_estimate_union},
+        [COMMON] = {fastbloom_estimate_common, fastbloom_blocked_estimate_common},
+        [PART] = {fastbloom_jaccard, fastbloom_blocked_jaccard}};
+    const filter *it = (filter *)self, *other = it;
+    PyObject *from = self;
+    uint64_t low = 0, high = 0;
+    fastbloom_shared words;
+    Py_buffer held;
+    unsigned what;
+    bool told = false;
+    if (!PyArg_ParseTuple(arguments, "I|O", &what, &from) || !is_made(it)) return NULL;
+    if (what >= UNION && (other = other_of(it, from, false)) == NULL) return NULL;
+    if (hold(it, &held, &words)) return NULL;
+    if (what >= UNION && what < BOUNDS)
+        told =
+            of_two[what][it->kind & BLOCKED](words.words, words.num_words, other->words.words,
+                                             other->words.num_words, it->num_hashes, &low, &high);
+    else
+        UNLOCKED_IF(is_worth_it(it, words.num_words),
+                    told = (what == RATE ? it->call->rate_now
+                                         : it->call->estimate)(words, it->num_hashes, &low, &high));
+    if (held.obj != NULL) PyBuffer_Release(&held);
+    if (!told) Py_RETURN_NONE;
     return pair(low, high);
-}
-
-static PyObject *filter_estimate_union(PyObject *self, PyObject *other) {
-    return bounds_of_two(self, other, fastbloom_estimate_union, fastbloom_blocked_estimate_union);
-}
-
-static PyObject *filter_estimate_common(PyObject *self, PyObject *other) {
-    return bounds_of_two(self, other, fastbloom_estimate_common, fastbloom_blocked_estimate_common);
-}
-
-static PyObject *filter_jaccard(PyObject *self, PyObject *other) {
-    return bounds_of_two(self, other, fastbloom_jaccard, fastbloom_blocked_jaccard);
 }
 
 /* Puts the words of a shared filter into a plain one of this size that nobody else can reach. */
@@ -641,7 +642,7 @@ static PyObject *filter_seal(PyObject *self, PyObject *is_alone) {
     int unlocked = PyObject_IsTrue(is_alone);
     uint64_t seal = 0;
     if (unlocked < 0 || !is_made(it)) return NULL;
-    UNLOCKED_IF(unlocked, seal = (it->kind & BLOCKED ? fastbloom_blocked_seal : fastbloom_seal)(
+    UNLOCKED_IF(unlocked, seal = SIZES[it->kind & BLOCKED].seal(
                               it->words.words, it->words.num_words, it->num_hashes, it->key));
     return PyLong_FromUnsignedLongLong(seal);
 }
@@ -651,21 +652,68 @@ static PyObject *filter_to_bytes(PyObject *self, PyObject *is_sealed) {
     const filter *it = (filter *)self;
     int sealed = PyObject_IsTrue(is_sealed);
     if (sealed < 0 || !is_made(it)) return NULL;
-    bool blocked = it->kind & BLOCKED;
-    uint32_t k = it->num_hashes;
     size_t num_words = it->words.num_words;
     PyObject *made = PyBytes_FromStringAndSize(NULL, HEAD + (Py_ssize_t)(8 * num_words));
     if (made == NULL) return NULL;
     uint8_t *file = (uint8_t *)PyBytes_AsString(made);
     uint64_t *words = (uint64_t *)(file + HEAD), seal = 0;
     memcpy(words, it->words.words, 8 * num_words);
-    UNLOCKED_IF(sealed, seal = (blocked ? fastbloom_blocked_seal : fastbloom_seal)(words, num_words,
-                                                                                   k, it->key));
-    uint8_t code = (blocked ? fastbloom_blocked_head_write
-                            : fastbloom_head_write)(num_words, k, it->key, seal, file);
+    UNLOCKED_IF(sealed,
+                seal = SIZES[it->kind & BLOCKED].seal(words, num_words, it->num_hashes, it->key));
+    uint8_t code =
+        SIZES[it->kind & BLOCKED].head_write(num_words, it->num_hashes, it->key, seal, file);
     if (code == 0) return made;
     Py_DECREF(made);
     return PyLong_FromLong(code);
+}
+
+/* Writes bytes, or returns false with the reason in errno. */
+static bool write_all(int file, const void *bytes, size_t len) {
+    for (const char *at = bytes; len > 0;) {
+        ssize_t done = write(file, at, len);
+        if (done < 0 && errno != EINTR) return false;
+        if (done > 0) at += done, len -= (size_t)done;
+    }
+    return true;
+}
+
+/* _write(file, is_sealed): writes a plain filter's file, part by part, from where it begins, and
+ * then the seal of what was written. */
+static PyObject *filter_write(PyObject *self, PyObject *arguments) {
+    const filter *it = (filter *)self;
+    int file, sealed, status = 0;
+    uint8_t head[HEAD];
+    static const uint8_t zeros[KEY];
+    fastbloom_hasher hasher;
+    if (!PyArg_ParseTuple(arguments, "ip", &file, &sealed) || !is_made(it)) return NULL;
+    size_t num_words = it->words.num_words;
+    uint8_t code =
+        SIZES[it->kind & BLOCKED].head_write(num_words, it->num_hashes, it->key, 0, head);
+    if (code) return PyLong_FromLong(code);
+    uint64_t *part = PyMem_Malloc(8 * AT_ONCE);
+    if (part == NULL) return PyErr_NoMemory();
+    fastbloom_hasher_init(&hasher, zeros);
+    fastbloom_hasher_update(&hasher, head, SEALED);
+    if (it->kind & BLOCKED) fastbloom_hasher_update(&hasher, head + LAYOUT, 8);
+    bool good = write_all(file, head, HEAD);
+    for (size_t at = 0; good && !status && at < num_words; at += AT_ONCE) {
+        size_t len = 8 * (num_words - at < AT_ONCE ? num_words - at : AT_ONCE);
+        memcpy(part, it->words.words + at, len);
+        UNLOCKED_IF(true, {
+            if (sealed) fastbloom_hasher_update(&hasher, (uint8_t *)part, len);
+            good = write_all(file, part, len);
+        });
+        status = PyErr_CheckSignals();
+    }
+    if (good && !status && sealed) {
+        (void)SIZES[it->kind & BLOCKED].head_write(num_words, it->num_hashes, it->key,
+                                                   fastbloom_hasher_finish(&hasher), head);
+        good = pwrite(file, head, HEAD, 0) == HEAD;
+    }
+    PyMem_Free(part);
+    if (status) return NULL;
+    if (!good) return PyErr_SetFromErrno(PyExc_OSError);
+    Py_RETURN_NONE;
 }
 
 static PyObject *filter_num_words(PyObject *self, void *unused) {
@@ -720,19 +768,16 @@ static PyMethodDef filter_methods[] = {
     {"_contains_items", filter_contains_items, METH_O, NULL},
     {"_contains_hashes", filter_contains_hashes, METH_O, NULL},
     {"_add_hashes_tell_new", filter_add_hashes_tell_new, METH_O, NULL},
-    {"_rate_now", filter_rate_now, METH_NOARGS, NULL},
-    {"_estimate", filter_estimate, METH_NOARGS, NULL},
+    {"_bounds", filter_bounds, METH_VARARGS, NULL},
     {"_unite", filter_unite, METH_O, NULL},
     {"_intersect", filter_intersect, METH_O, NULL},
     {"_equal", filter_equal, METH_O, NULL},
     {"_is_part", filter_is_part, METH_O, NULL},
-    {"_estimate_union", filter_estimate_union, METH_O, NULL},
-    {"_estimate_common", filter_estimate_common, METH_O, NULL},
-    {"_jaccard", filter_jaccard, METH_O, NULL},
     {"_take_into", filter_take_into, METH_O, NULL},
     {"_load_into", filter_load_into, METH_O, NULL},
     {"_seal", filter_seal, METH_O, NULL},
     {"_to_bytes", filter_to_bytes, METH_O, NULL},
+    {"_write", filter_write, METH_VARARGS, NULL},
     {NULL, NULL, 0, NULL}};
 
 __extension__ static PyType_Slot filter_slots[] = {{Py_tp_doc, "What all kinds of filters have."},
@@ -769,9 +814,8 @@ static PyObject *rate_bounds(PyObject *module, PyObject *arguments) {
     uint8_t code;
     (void)module;
     if (!PyArg_ParseTuple(arguments, "IKIK", &kind, &num_words, &num_hashes, &items)) return NULL;
-    UNLOCKED_IF(true,
-                code = (kind & BLOCKED ? fastbloom_blocked_rate_bounds : fastbloom_rate_bounds)(
-                    num_words, num_hashes, items, &low, &high));
+    UNLOCKED_IF(
+        true, code = SIZES[kind & BLOCKED].rate_bounds(num_words, num_hashes, items, &low, &high));
     return code ? PyLong_FromLong(code) : pair(low, high);
 }
 
@@ -793,25 +837,8 @@ static PyObject *capacity(PyObject *module, PyObject *arguments) {
     (void)module;
     if (!PyArg_ParseTuple(arguments, "IKIKK", &kind, &num_words, &num_hashes, &num, &den))
         return NULL;
-    UNLOCKED_IF(true, items = (kind & BLOCKED ? fastbloom_blocked_capacity : fastbloom_capacity)(
-                          num_words, num_hashes, num, den));
+    UNLOCKED_IF(true, items = SIZES[kind & BLOCKED].capacity(num_words, num_hashes, num, den));
     return PyLong_FromSize_t(items);
-}
-
-static PyObject *write_head(PyObject *module, PyObject *arguments) {
-    unsigned long long num_words, seal;
-    unsigned kind;
-    uint32_t num_hashes;
-    const char *key;
-    Py_ssize_t len;
-    uint8_t head[HEAD];
-    (void)module;
-    if (!PyArg_ParseTuple(arguments, "IKIy#K", &kind, &num_words, &num_hashes, &key, &len, &seal))
-        return NULL;
-    if (len != KEY) return PyErr_Format(PyExc_ValueError, "a key is sixteen bytes");
-    uint8_t code = (kind & BLOCKED ? fastbloom_blocked_head_write : fastbloom_head_write)(
-        num_words, num_hashes, (const uint8_t *)key, seal, head);
-    return code ? PyLong_FromLong(code) : PyBytes_FromStringAndSize((char *)head, HEAD);
 }
 
 static PyObject *read_head(PyObject *module, PyObject *arguments) {
@@ -825,8 +852,8 @@ static PyObject *read_head(PyObject *module, PyObject *arguments) {
     (void)module;
     if (!PyArg_ParseTuple(arguments, "Iy#", &kind, &head, &len)) return NULL;
     if (len != HEAD) return PyErr_Format(PyExc_ValueError, "a head is 64 bytes");
-    uint8_t code = (kind & BLOCKED ? fastbloom_blocked_head_read : fastbloom_head_read)(
-        (const uint8_t *)head, &num_words, &num_hashes, key, &seal);
+    uint8_t code =
+        SIZES[kind & BLOCKED].head_read((const uint8_t *)head, &num_words, &num_hashes, key, &seal);
     if (code) return PyLong_FromLong(code);
     return Py_BuildValue("nIy#K", (Py_ssize_t)num_words, num_hashes, (char *)key, (Py_ssize_t)KEY,
                          seal);
@@ -836,7 +863,6 @@ static PyMethodDef functions[] = {{"plan", plan, METH_VARARGS, NULL},
                                   {"rate_bounds", rate_bounds, METH_VARARGS, NULL},
                                   {"expected_rate", expected_rate, METH_VARARGS, NULL},
                                   {"capacity", capacity, METH_VARARGS, NULL},
-                                  {"write_head", write_head, METH_VARARGS, NULL},
                                   {"read_head", read_head, METH_VARARGS, NULL},
                                   {NULL, NULL, 0, NULL}};
 static struct PyModuleDef definition = {PyModuleDef_HEAD_INIT,

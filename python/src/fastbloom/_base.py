@@ -22,6 +22,7 @@ Kind = TypeVar("Kind", bound="Base[Any]")  # the class of the filters that one t
 
 
 BLOCKED, SHARED = 1, 2  # what the number of a kind has, beside 0
+_RATE, _ITEMS, _UNION, _COMMON, _PART = range(5)  # of what bounds are asked for
 
 
 def fractions_of(bounds: Any) -> tuple[Fraction, Fraction]:
@@ -153,7 +154,7 @@ class Base(_core.Core, Generic[Kind]):
         of how far the number of items that were added may lie from it. The bounds are proved; those
         of a blocked filter are computed by floats instead.
         """
-        return estimate_of(self._estimate())
+        return estimate_of(self._bounds(_ITEMS))
 
     @property
     def approx_items(self) -> float:
@@ -167,7 +168,7 @@ class Base(_core.Core, Generic[Kind]):
         It is the part of all look-ups that return True, where each position is drawn alike, and of
         a blocked filter the line. The bounds are proved, and are fractions of 2^63.
         """
-        return fractions_of(self._rate_now())
+        return fractions_of(self._bounds(_RATE))
 
     def false_positive_rate(self) -> tuple[float, float]:
         """`exact_false_positive_rate` as two floats, rounded outward."""
@@ -207,7 +208,7 @@ class Base(_core.Core, Generic[Kind]):
         of this kind TypeError.
         """
         this, that = self._both(other)
-        return estimate_of(this._estimate_union(that))
+        return estimate_of(this._bounds(_UNION, that))
 
     def estimated_common(self, other: Kind) -> Estimate:
         """Two bounds of the number of items that both have in common.
@@ -216,7 +217,7 @@ class Base(_core.Core, Generic[Kind]):
         upper bound is None where one of the two has none. It raises as `estimated_union`.
         """
         this, that = self._both(other)
-        return estimate_of(this._estimate_common(that))
+        return estimate_of(this._bounds(_COMMON, that))
 
     def jaccard(self, other: Kind) -> tuple[Fraction, Fraction]:
         """Two bounds of the part of all items of both that they have in common, from 0 to 1.
@@ -225,7 +226,7 @@ class Base(_core.Core, Generic[Kind]):
         0 and 1 where nothing is known, as of two empty filters. It raises as `estimated_union`.
         """
         this, that = self._both(other)
-        return fractions_of(this._jaccard(that))
+        return fractions_of(this._bounds(_PART, that))
 
     def _change(self, other: Any, call: Callable[[Any], bool]) -> None:
         """Changes this filter by another one. Where they don't fit, it raises ValueError."""
