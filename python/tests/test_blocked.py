@@ -6,8 +6,10 @@ import ctypes
 import math
 import os
 import pickle
+import sys
 import tempfile
 import threading
+import time
 import unittest
 from fractions import Fraction
 from pathlib import Path
@@ -349,6 +351,35 @@ class Rates(unittest.TestCase):
         for rate, wanted in (("1/2", 354_891), ("1/1000", 512), ("1/1000000", 0)):
             self.assertLessEqual(abs(seen.capacity_for(rate) - wanted), 1)
             self.assertEqual(seen.load().capacity_for(rate), seen.capacity_for(rate))
+
+    def test_capacities_near_1_are_told_soon_and_other_threads_go_on(self):
+        calls, ticks, ended = fastbloom._library.BLOCKED, [0], threading.Event()
+
+        def tick():
+            while not ended.wait(0.0001):
+                ticks[0] += 1
+
+        thread = threading.Thread(target=tick)
+        interval = sys.getswitchinterval()
+        sys.setswitchinterval(60)  # so that a thread gets on only where another one lets it
+        try:
+            thread.start()
+            before, begun = ticks[0], time.process_time()
+            capacity = calls.capacity(80_000_000, 64, 999_999, 10**6)
+            self.assertLess(time.process_time() - begun, 2)
+            for _ in range(50):  # a busy machine may let the thread wait
+                calls.capacity(80_000_000, 64, 999_999, 10**6)
+                if ticks[0] > before:
+                    break
+            self.assertGreater(ticks[0], before)
+        finally:
+            sys.setswitchinterval(interval)
+            ended.set()
+            thread.join()
+        low, high = ctypes.c_uint64(), ctypes.c_uint64()
+        for items, is_above in ((capacity, False), (capacity + 1, True)):
+            self.assertEqual(calls.rate_bounds(80_000_000, 64, items, low, high), 0)
+            self.assertEqual(Fraction(high.value, 2**63) > Fraction(999_999, 10**6), is_above)
 
     def test_the_mean_rate_of_lines(self):
         """By exact fractions: over how many items a line draws, and how many of its bits these."""
