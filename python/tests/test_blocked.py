@@ -352,8 +352,9 @@ class Rates(unittest.TestCase):
             self.assertLessEqual(abs(seen.capacity_for(rate) - wanted), 1)
             self.assertEqual(seen.load().capacity_for(rate), seen.capacity_for(rate))
 
-    def test_capacities_near_1_are_told_soon_and_other_threads_go_on(self):
-        calls, ticks, ended = fastbloom._library.BLOCKED, [0], threading.Event()
+    def test_a_capacity_near_1_is_told_soon_and_other_threads_go_on(self):
+        seen, ticks, ended = SharedBlockedFilter.over(bytearray(64_000), 1), [0], threading.Event()
+        rate = Fraction(999_999_999_999, 10**12)
 
         def tick():
             while not ended.wait(0.0001):
@@ -365,21 +366,19 @@ class Rates(unittest.TestCase):
         try:
             thread.start()
             before, begun = ticks[0], time.process_time()
-            capacity = calls.capacity(80_000_000, 64, 999_999, 10**6)
-            self.assertLess(time.process_time() - begun, 2)
-            for _ in range(50):  # a busy machine may let the thread wait
-                calls.capacity(80_000_000, 64, 999_999, 10**6)
+            capacity = seen.capacity_for(rate)
+            self.assertLess(time.process_time() - begun, 1)
+            for _ in range(100):  # a busy machine may let the thread wait
                 if ticks[0] > before:
                     break
+                seen.capacity_for(rate)
             self.assertGreater(ticks[0], before)
         finally:
             sys.setswitchinterval(interval)
             ended.set()
             thread.join()
-        low, high = ctypes.c_uint64(), ctypes.c_uint64()
-        for items, is_above in ((capacity, False), (capacity + 1, True)):
-            self.assertEqual(calls.rate_bounds(80_000_000, 64, items, low, high), 0)
-            self.assertEqual(Fraction(high.value, 2**63) > Fraction(999_999, 10**6), is_above)
+        at, above = (seen.exact_expected_false_positive_rate(capacity + it)[1] for it in (0, 1))
+        self.assertTrue(at <= rate < above)
 
     def test_the_mean_rate_of_lines(self):
         """By exact fractions: over how many items a line draws, and how many of its bits these."""
