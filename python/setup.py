@@ -9,11 +9,14 @@ from pathlib import Path
 from setuptools import Extension, setup
 
 LIBRARY = Path(
-    os.environ.get("FASTBLOOM_LIB") or Path(__file__).resolve().parent.parent / "out" / "c"
+    os.environ.get("FASTBLOOM_LIB")
+    or Path(__file__).resolve().parent.parent / "out" / "c"
 )
 if not (LIBRARY / "libfastbloom_c.a").is_file():
-    raise SystemExit(f"there is no {LIBRARY}/libfastbloom_c.a: run bin/build-c, or name its folder "
-                     "in FASTBLOOM_LIB")
+    raise SystemExit(
+        f"there is no {LIBRARY}/libfastbloom_c.a: run bin/build-c, or name its folder "
+        "in FASTBLOOM_LIB"
+    )
 if sysconfig.get_config_var("Py_GIL_DISABLED"):
     raise SystemExit("fastbloom needs a Python with the global interpreter lock")
 
@@ -26,7 +29,9 @@ setup(
             depends=[str(LIBRARY / "libfastbloom_c.a")],
             extra_objects=[str(LIBRARY / "libfastbloom_c.a")],
             extra_compile_args=["-std=c11", "-O2", "-fvisibility=hidden"],
-            extra_link_args=["-Wl,--exclude-libs,ALL,--gc-sections,-z,defs,-z,relro,-z,now"],
+            extra_link_args=[
+                "-Wl,--exclude-libs,ALL,--gc-sections,-z,defs,-z,relro,-z,now"
+            ],
             py_limited_api=True,
         )
     ],

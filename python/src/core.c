@@ -3,6 +3,7 @@
  *
  * The interpreter's lock keeps two calls on the words of a plain filter apart. It is given up only
  * in calls on words that threads share, and on memory that no other thread can reach. */
+#define _GNU_SOURCE
 #define PY_SSIZE_T_CLEAN
 #define Py_LIMITED_API 0x030b0000
 #include <Python.h>
@@ -859,7 +860,17 @@ static PyObject *read_head(PyObject *module, PyObject *arguments) {
                          seal);
 }
 
-static PyMethodDef functions[] = {{"plan", plan, METH_VARARGS, NULL},
+/* sync_all(file): flushes the whole system of files in which a file is. */
+static PyObject *sync_all(PyObject *module, PyObject *number) {
+    long file = PyLong_AsLong(number);
+    (void)module;
+    if (file == -1 && PyErr_Occurred()) return NULL;
+    if (syncfs((int)file) != 0) return PyErr_SetFromErrno(PyExc_OSError);
+    Py_RETURN_NONE;
+}
+
+static PyMethodDef functions[] = {{"sync_all", sync_all, METH_O, NULL},
+                                  {"plan", plan, METH_VARARGS, NULL},
                                   {"rate_bounds", rate_bounds, METH_VARARGS, NULL},
                                   {"expected_rate", expected_rate, METH_VARARGS, NULL},
                                   {"capacity", capacity, METH_VARARGS, NULL},

@@ -9,12 +9,14 @@ import struct
 import subprocess
 import sys
 import tempfile
+import threading
 import unittest
 from pathlib import Path
 from unittest import mock
 
 import storm
 from fastbloom import BlockedFilter, Filter, Refusal, SharedBlockedFilter, SharedFilter
+from peak import peak_of
 
 COUNTING_KEY = bytes(range(16))
 BLOCKED = (BlockedFilter, SharedBlockedFilter)
@@ -75,7 +77,9 @@ class Files(unittest.TestCase):
     def test_a_worked_file_is_read_and_written(self):
         for read in self.readers(WORKED):
             seen = read()
-            self.assertEqual((seen.num_words, seen.num_hashes, seen.key), (1, 3, COUNTING_KEY))
+            self.assertEqual(
+                (seen.num_words, seen.num_hashes, seen.key), (1, 3, COUNTING_KEY)
+            )
             self.assertEqual(seen.words(), [0x1080008040001400])
             self.assertEqual(seen.contains_many(["crab", "lobster"]), [True, True])
             self.assertEqual(seen.to_bytes(), WORKED)
@@ -109,7 +113,9 @@ class Files(unittest.TestCase):
             self.assertEqual(read().num_hashes, 64)
             with self.assertRaises(ValueError) as told:
                 read(max_hashes=63)
-            self.assertEqual(str(told.exception), "the file has 64 hashes, and max_hashes is 63")
+            self.assertEqual(
+                str(told.exception), "the file has 64 hashes, and max_hashes is 63"
+            )
         for read in self.readers(many):
             self.assertRaises(ValueError, read)
             for most in (2**32 - 1, None):
@@ -123,7 +129,9 @@ class Files(unittest.TestCase):
             self.assertEqual(read(max_words=2).num_words, 2)
             with self.assertRaises(ValueError) as told:
                 read(max_words=1)
-            self.assertEqual(str(told.exception), "the file has 2 words, and max_words is 1")
+            self.assertEqual(
+                str(told.exception), "the file has 2 words, and max_words is 1"
+            )
         lines = BlockedFilter(10, "1/2").to_bytes(sealed=False)
         for head, filters in ((two, (Filter, SharedFilter)), (lines, BLOCKED)):
             head = bytearray(head[:64])
@@ -131,9 +139,13 @@ class Files(unittest.TestCase):
             self.path.write_bytes(head)
             os.truncate(self.path, 64 + 2**40)
             calls = [filters[0].load, filters[1].map]
-            calls.append(lambda path, **options: filters[0].load(path, mapped=True, **options))
+            calls.append(
+                lambda path, **options: filters[0].load(path, mapped=True, **options)
+            )
             for call in calls:
-                with self.assertRaisesRegex(ValueError, f"{2**37} words, and max_words is 1000"):
+                with self.assertRaisesRegex(
+                    ValueError, f"{2**37} words, and max_words is 1000"
+                ):
                     call(self.path, max_words=1000)
             self.path.unlink()
 
@@ -178,7 +190,10 @@ class Files(unittest.TestCase):
 
     def test_a_loaded_filter_keeps_no_descriptor(self):
         self.path.write_bytes(WORKED)
-        plain, lines = Path(self.folder.name) / "plain", Path(self.folder.name) / "lines"
+        plain, lines = (
+            Path(self.folder.name) / "plain",
+            Path(self.folder.name) / "lines",
+        )
         Filter.from_bytes(WORKED).save(plain, sealed=False)
         blocked = BlockedFilter(10, "1/1000")
         blocked.add("crab")
@@ -217,7 +232,8 @@ class Files(unittest.TestCase):
             seen.save(self.path)
             found = self.path.stat()
             self.assertEqual(
-                (found.st_uid, found.st_gid, stat.S_IMODE(found.st_mode)), (12345, 23456, 0o666)
+                (found.st_uid, found.st_gid, stat.S_IMODE(found.st_mode)),
+                (12345, 23456, 0o666),
             )
 
     def lists(self, path, default=False):
@@ -233,7 +249,9 @@ class Files(unittest.TestCase):
     def set_list(self, path, *entries, default=False):
         """Gives a file a list, or a folder a default: entries are a tag, rights and a number."""
         name = "system.posix_acl_default" if default else "system.posix_acl_access"
-        data = struct.pack("<I", 2) + b"".join(struct.pack("<HHI", *entry) for entry in entries)
+        data = struct.pack("<I", 2) + b"".join(
+            struct.pack("<HHI", *entry) for entry in entries
+        )
         try:
             os.setxattr(path, name, data)
         except OSError as error:
@@ -247,7 +265,12 @@ class Files(unittest.TestCase):
         seen.save(self.path)
         self.path.chmod(0o600)
         self.set_list(
-            self.path, OWNER, (USER, 4, 12345), (GROUP, 0, NOBODY), MASK, (OTHER, 0, NOBODY)
+            self.path,
+            OWNER,
+            (USER, 4, 12345),
+            (GROUP, 0, NOBODY),
+            MASK,
+            (OTHER, 0, NOBODY),
         )
         before = self.path.stat().st_mode, self.lists(self.path)
         self.assertEqual(stat.S_IMODE(before[0]), 0o640)
@@ -259,7 +282,12 @@ class Files(unittest.TestCase):
         for name in ("setxattr", "fchown"):
             seen.save(self.path)
             self.set_list(
-                self.path, OWNER, (USER, 4, 12345), (GROUP, 4, NOBODY), MASK, (OTHER, 4, NOBODY)
+                self.path,
+                OWNER,
+                (USER, 4, 12345),
+                (GROUP, 4, NOBODY),
+                MASK,
+                (OTHER, 4, NOBODY),
             )
             with mock.patch.object(os, name, side_effect=PermissionError):
                 seen.save(self.path)
@@ -290,7 +318,12 @@ class Files(unittest.TestCase):
 
     def test_a_group_that_cannot_be_kept_is_among_the_others(self):
         seen = Filter.from_bytes(WORKED)
-        for mode, wanted in ((0o604, 0o600), (0o664, 0o604), (0o640, 0o600), (0o666, 0o606)):
+        for mode, wanted in (
+            (0o604, 0o600),
+            (0o664, 0o604),
+            (0o640, 0o600),
+            (0o666, 0o606),
+        ):
             seen.save(self.path)
             self.path.chmod(mode)
             with mock.patch.object(os, "fchown", side_effect=PermissionError):
@@ -355,7 +388,9 @@ class Files(unittest.TestCase):
                 opened.append(mode)
             return plain_open(path, flags, mode, **options)
 
-        with mock.patch.object(os, "fsync", told), mock.patch.object(os, "open", told_open):
+        with mock.patch.object(os, "fsync", told), mock.patch.object(
+            os, "open", told_open
+        ):
             Filter.from_bytes(WORKED).save(self.path)
         self.assertEqual((opened, modes), ([0o600], [0o600]))
 
@@ -364,7 +399,9 @@ class Files(unittest.TestCase):
 
         def told(descriptor):
             found = os.fstat(descriptor)
-            flushed.append((stat.S_ISDIR(found.st_mode) and found.st_ino, os.listdir(folder)))
+            flushed.append(
+                (stat.S_ISDIR(found.st_mode) and found.st_ino, os.listdir(folder))
+            )
             fsync(descriptor)
 
         folder, here = self.folder.name, os.getcwd()
@@ -399,22 +436,25 @@ class Files(unittest.TestCase):
         self.assertEqual(Filter.load(self.path), seen)
         self.assertEqual(os.listdir(self.folder.name), [self.path.name])
 
-    def test_what_is_no_regular_file_is_neither_replaced_nor_waited_for(self):
+    def test_what_is_no_regular_file_is_neither_read_nor_replaced(self):
         folder = Path(self.folder.name)
         os.mkfifo(folder / "pipe")
         os.symlink("pipe", folder / "link")
         os.symlink("/dev/null", folder / "null")
+        os.symlink("ring", folder / "ring")
         with socket.socket(socket.AF_UNIX) as bound:
             bound.bind(str(folder / "socket"))
         os.mkdir(folder / "folder")
         names = sorted(os.listdir(folder))
         kinds = [(folder / name).lstat().st_mode for name in names]
+        refused = {"folder": errno.EISDIR, "socket": errno.ENXIO, "ring": errno.ELOOP}
         for seen in (Filter(10, "1/1000"), BlockedFilter(10, "1/1000")):
-            for name in names:
-                wanted = errno.EISDIR if name == "folder" else errno.EINVAL
+            for name, wanted in refused.items():
                 with self.assertRaises(OSError) as raised:
                     seen.save(folder / name)
                 self.assertEqual(raised.exception.errno, wanted)
+            seen.save(folder / "null")
+            for name in names:
                 self.assertRaises(OSError, type(seen).load, folder / name)
                 self.assertRaises(OSError, type(seen).load, folder / name, mapped=True)
         for shared in (SharedFilter, SharedBlockedFilter):
@@ -422,6 +462,162 @@ class Files(unittest.TestCase):
                 self.assertRaises(OSError, shared.map, folder / name)
         self.assertEqual(sorted(os.listdir(folder)), names)
         self.assertEqual([(folder / name).lstat().st_mode for name in names], kinds)
+
+    def test_a_pipe_is_written_as_a_stream(self):
+        seen = Filter.from_bytes(WORKED)
+        os.mkfifo(self.path)
+        link = Path(self.folder.name) / "link"
+        os.symlink(self.path.name, link)
+        reader = os.open(self.path, os.O_RDONLY | os.O_NONBLOCK)
+        self.addCleanup(os.close, reader)
+        for path in (self.path, link):
+            seen.save(path)
+            self.assertEqual(os.read(reader, 100), WORKED)
+        self.assertTrue(stat.S_ISFIFO(self.path.stat().st_mode) and link.is_symlink())
+        # A thread of this process may read what it saves, also more than a pipe has room for.
+        large, (end, start), read = Filter(1_000_000, "1/1000"), os.pipe(), []
+        with open(end, "rb") as file:
+            thread = threading.Thread(target=lambda: read.append(file.read()))
+            thread.start()
+            large.save(f"/dev/fd/{start}")
+            os.close(start)
+            thread.join()
+        self.assertEqual(read, [large.to_bytes()])
+
+    def test_a_descriptor_goes_on_at_its_place(self):
+        seen = Filter.from_bytes(WORKED)
+        link = Path(self.folder.name) / "link"
+        with open(self.path, "w+b", buffering=0) as file:
+            number = file.fileno()
+            os.symlink(f"/dev/fd/{number}", link)
+            paths = [f"/dev/fd/{number}", f"/proc/self/fd/{number}", link]
+            for path in [*paths, f"/proc/{os.getpid()}/fd/{number}"]:
+                file.truncate(0)
+                file.seek(0)
+                file.write(b"before..after")
+                file.seek(6)
+                seen.save(path)
+                file.write(b"|")
+                self.assertEqual(self.path.read_bytes(), b"before" + WORKED + b"|")
+            self.assertTrue(link.is_symlink())
+        self.assertEqual(sorted(os.listdir(self.folder.name)), ["link", self.path.name])
+        with self.assertRaises(OSError) as raised:  # it is closed
+            seen.save(link)
+        self.assertEqual(raised.exception.errno, errno.ENOENT)
+        with open(os.devnull, "rb") as file, self.assertRaises(OSError) as raised:
+            seen.save(f"/dev/fd/{file.fileno()}")
+        self.assertEqual(raised.exception.errno, errno.EBADF)
+
+    def test_the_standard_output_is_written(self):
+        """By a link as /dev/stdout is one, which a fault might replace."""
+        code = (
+            "import sys; from fastbloom import Filter\n"
+            "sys.stdout.write('before'); sys.stdout.flush()\n"
+            "Filter.from_bytes(bytes.fromhex(sys.argv[1])).save(sys.argv[2])\n"
+            "sys.stdout.write('after')\n"
+        )
+        link = Path(self.folder.name) / "stdout"
+        os.symlink("/proc/self/fd/1", link)
+        words = [sys.executable, "-c", code, WORKED.hex(), str(link)]
+        with open(self.path, "wb") as file:
+            subprocess.run(words, stdout=file, timeout=60, check=True)
+        self.assertEqual(self.path.read_bytes(), b"before" + WORKED + b"after")
+        self.assertEqual(os.readlink(link), "/proc/self/fd/1")
+
+    def test_a_link_stays_and_what_it_leads_to_is_replaced(self):
+        seen, folder = Filter.from_bytes(WORKED), Path(self.folder.name)
+        os.mkdir(folder / "folder")
+        os.symlink("folder/first", folder / "link")
+        os.symlink("second", folder / "folder" / "first")
+        end = folder / "folder" / "second"
+        for number in range(2):
+            if number:
+                end.write_bytes(b"other")
+                end.chmod(0o604)
+            seen.save(folder / "link")
+            self.assertTrue((folder / "link").is_symlink() and not end.is_symlink())
+            self.assertTrue((folder / "folder" / "first").is_symlink())
+            self.assertEqual(end.read_bytes(), WORKED)
+        self.assertEqual(stat.S_IMODE(end.stat().st_mode), 0o604)
+        self.assertEqual(sorted(os.listdir(folder / "folder")), ["first", "second"])
+
+    def saved_by_another(self, path):
+        """Saves a file as another user, where this one may, and returns the number of the error."""
+        child = os.fork()
+        if child == 0:
+            try:
+                if os.geteuid() == 0:
+                    os.setresgid(1235, 1235, 1235)
+                    os.setresuid(1235, 1235, 1235)
+                Filter.from_bytes(WORKED).save(path)
+            except OSError as error:
+                os._exit(error.errno)
+            os._exit(0)
+        return os.waitstatus_to_exitcode(os.waitpid(child, 0)[1])
+
+    def test_a_folder_that_may_not_be_read(self):
+        folder = Path(self.folder.name)
+        folder.chmod(0o1733 if os.geteuid() == 0 else 0o300)
+        try:
+            self.assertEqual(self.saved_by_another(self.path), 0)
+        finally:
+            folder.chmod(0o700)
+        self.assertEqual(os.listdir(folder), [self.path.name])
+        self.assertEqual(self.path.read_bytes(), WORKED)
+
+    @unittest.skipUnless(os.geteuid() == 0, "only root has files of other users")
+    def test_a_link_of_another_user_in_a_folder_of_all_is_not_followed(self):
+        folder, link = Path(self.folder.name), Path(self.folder.name) / "link"
+        folder.chmod(0o1777)
+        os.symlink(self.path.name, link)
+        os.chown(folder, 1236, 1236)
+        for owner, wanted in (
+            (1237, errno.EACCES),
+            (1236, 0),
+            (1235, 0),
+            (0, errno.EACCES),
+        ):
+            os.lchown(link, owner, owner)
+            self.assertEqual(self.saved_by_another(link), wanted)
+            self.assertEqual(self.path.exists(), wanted == 0)
+            if not wanted:
+                self.path.unlink()
+
+    def test_a_file_is_written_with_no_copy_of_its_words(self):
+        for seen in (Filter(1_000_000, "1/1000"), BlockedFilter(1_000_000, "1/1000")):
+            seen.add("crab")
+            size = 8 * seen.num_words
+            for sealed in (False, True):
+                self.assertLess(
+                    peak_of(lambda: seen.save(self.path, sealed)), size // 2
+                )
+                self.assertLess(peak_of(lambda: seen.to_bytes(sealed)), size * 3 // 2)
+                self.assertEqual(self.path.read_bytes(), seen.to_bytes(sealed))
+            self.assertEqual(type(seen).load(self.path), seen)
+
+    def test_a_file_that_is_saved_while_threads_add_has_a_right_seal(self):
+        seen = Filter(1_000_000, "1/1000")
+        seen.update(f"item{number}" for number in range(1000))
+        going = True
+
+        def add():
+            number = 0
+            while going:
+                seen.add(f"more{number}")
+                number += 1
+
+        threads = [threading.Thread(target=add) for _ in range(2)]
+        for thread in threads:
+            thread.start()
+        try:
+            for _ in range(20):
+                seen.save(self.path)
+                read = Filter.load(self.path)
+                self.assertTrue(all(f"item{number}" in read for number in range(1000)))
+        finally:
+            going = False
+            for thread in threads:
+                thread.join()
 
     def test_a_signal_may_save_the_file_that_is_being_saved(self):
         first, second = Filter.from_bytes(WORKED), Filter.from_bytes(WORKED)
@@ -439,7 +635,9 @@ class Files(unittest.TestCase):
             told.append(True)
             second.save(self.path)
 
-        self.addCleanup(signal.signal, signal.SIGALRM, signal.signal(signal.SIGALRM, save))
+        self.addCleanup(
+            signal.signal, signal.SIGALRM, signal.signal(signal.SIGALRM, save)
+        )
         with mock.patch.object(os, "fsync", interrupted):
             first.save(self.path)
         self.assertEqual((told, Filter.load(self.path)), ([True], first))
@@ -457,7 +655,9 @@ class Files(unittest.TestCase):
 
     def test_a_write_that_fails_leaves_the_old_file(self):
         seen = Filter.from_bytes(WORKED)
-        self.assertRaises(OSError, seen.save, Path(self.folder.name) / "none" / "seen.bloom")
+        self.assertRaises(
+            OSError, seen.save, Path(self.folder.name) / "none" / "seen.bloom"
+        )
         self.path.mkdir()
         self.assertRaises(OSError, seen.save, self.path)
         self.assertEqual(os.listdir(self.folder.name), [self.path.name])

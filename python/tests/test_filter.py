@@ -74,7 +74,9 @@ def of_words(words, hashes):
     """The filter with these words and this many hashes, read from a file."""
     file = bytearray(small().to_bytes(sealed=False)[:64])
     file[8:24] = hashes.to_bytes(8, "little") + len(words).to_bytes(8, "little")
-    return Filter.from_bytes(file + b"".join(word.to_bytes(8, "little") for word in words))
+    return Filter.from_bytes(
+        file + b"".join(word.to_bytes(8, "little") for word in words)
+    )
 
 
 def drawn_words(draw, num_words):
@@ -82,7 +84,10 @@ def drawn_words(draw, num_words):
     bits = [False] * (64 * num_words)
     for place in draw.sample(range(len(bits)), draw.randrange(len(bits))):
         bits[place] = True
-    return [sum(bits[64 * at + place] << place for place in range(64)) for at in range(num_words)]
+    return [
+        sum(bits[64 * at + place] << place for place in range(64))
+        for at in range(num_words)
+    ]
 
 
 def items_of(words, hashes):
@@ -105,14 +110,30 @@ class Items(unittest.TestCase):
     def test_bytes_like_objects_are_their_bytes(self):
         seen, numbers = small(), array.array("I", [1, 2, 3])
         raw = numbers.tobytes()
-        for item in (numbers, bytearray(b"ab"), memoryview(b"abcd")[::2], Bytes(b"crab")):
+        for item in (
+            numbers,
+            bytearray(b"ab"),
+            memoryview(b"abcd")[::2],
+            Bytes(b"crab"),
+        ):
             self.assertFalse(seen.add(item))
         for item in (raw, b"ab", b"ac", b"crab"):
             self.assertIn(item, seen)
 
     def test_nothing_else_is_an_item(self):
         seen = small()
-        for item in (5, 10**12, 0, True, 1.5, None, ["crab"], ("crab",), range(3), object()):
+        for item in (
+            5,
+            10**12,
+            0,
+            True,
+            1.5,
+            None,
+            ["crab"],
+            ("crab",),
+            range(3),
+            object(),
+        ):
             for call in (
                 seen.add,
                 seen.hash,
@@ -187,7 +208,9 @@ class Items(unittest.TestCase):
         ):
             self.assertFalse(seen.add(item))
         raw = b"\x01\0\0\0\x02\0\0\0"
-        self.assertEqual(seen.contains_many([b"crab", "eel", raw, record.tobytes()]), [True] * 4)
+        self.assertEqual(
+            seen.contains_many([b"crab", "eel", raw, record.tobytes()]), [True] * 4
+        )
 
     def test_hashes_are_those_of_the_bytes_under_the_key(self):
         keyed = Filter(1, "1/2", COUNTING_KEY)
@@ -226,7 +249,9 @@ class Many(unittest.TestCase):
     def test_answers_are_in_order(self):
         seen = small()
         seen.update(["crab", b"lobster"])
-        self.assertEqual(seen.contains_many(["crab", "whale", "lobster"]), [True, False, True])
+        self.assertEqual(
+            seen.contains_many(["crab", "whale", "lobster"]), [True, False, True]
+        )
 
     def test_many_answers_are_those_of_single_look_ups(self):
         seen = Filter(3000, "1/10")
@@ -284,8 +309,19 @@ class Many(unittest.TestCase):
         seen.update(numpy.array([b"eel", b"lobster"]))
         seen.update(numpy.array(["whale", b"prawn"], dtype=object))
         seen.update(numpy.array([[1, 2], [3, 4]], dtype="u1"))
-        rows = ["crab", "Krabbe ü", "eel", "lobster", "whale", "prawn", b"\1\2", b"\3\4"]
-        self.assertEqual(seen.contains_many(numpy.array(rows, dtype=object)), [True] * 8)
+        rows = [
+            "crab",
+            "Krabbe ü",
+            "eel",
+            "lobster",
+            "whale",
+            "prawn",
+            b"\1\2",
+            b"\3\4",
+        ]
+        self.assertEqual(
+            seen.contains_many(numpy.array(rows, dtype=object)), [True] * 8
+        )
 
 
 class Sizes(unittest.TestCase):
@@ -293,14 +329,17 @@ class Sizes(unittest.TestCase):
         wanted = Filter(1000, "1/1000")
         for rate in (0.001, Fraction(1, 1000), Decimal("0.001"), "0.001", "1e-3"):
             self.assertEqual(Filter(1000, rate), wanted)
-        self.assertEqual((wanted.num_words, wanted.num_bits, wanted.num_hashes), (225, 14400, 10))
+        self.assertEqual(
+            (wanted.num_words, wanted.num_bits, wanted.num_hashes), (225, 14400, 10)
+        )
 
     def test_refusals(self):
         for rate, code in ((0, 4), ("0/5", 4), ("1/0", 4)):
             with self.assertRaises(Refusal) as told:
                 Filter(10, rate)
             self.assertEqual(
-                (told.exception.code, str(told.exception)), (code, "rate with a zero part")
+                (told.exception.code, str(told.exception)),
+                (code, "rate with a zero part"),
             )
         # The last size below 2^64 bits, and the first that isn't.
         for items, code in ((12786308645202655226, 3), (12786308645202655227, 5)):
@@ -333,7 +372,13 @@ class Sizes(unittest.TestCase):
         ):
             self.assertRaises(ValueError, Filter, 1000, rate)
         self.assertEqual(Filter(1000, f"{2**64 - 2}/{2**64 - 1}").num_bits, 64)
-        for items, rate in ((1.5, "1/2"), ("10", "1/2"), (10, None), (10, b"1/2"), (10, (1, 2))):
+        for items, rate in (
+            (1.5, "1/2"),
+            ("10", "1/2"),
+            (10, None),
+            (10, b"1/2"),
+            (10, (1, 2)),
+        ):
             self.assertRaises(TypeError, Filter, items, rate)
 
     def test_a_rate_of_many_digits_is_refused_at_once(self):
@@ -387,7 +432,9 @@ class Sizes(unittest.TestCase):
         seen = small()
         self.assertEqual(seen.count_ones(), 0)
         seen.update(f"item{number}" for number in range(1000))
-        self.assertEqual(seen.count_ones(), sum(bin(word).count("1") for word in seen.words()))
+        self.assertEqual(
+            seen.count_ones(), sum(bin(word).count("1") for word in seen.words())
+        )
         seen.clear()
         self.assertEqual(seen.count_ones(), 0)
 
@@ -436,7 +483,9 @@ class Sizes(unittest.TestCase):
         # Of two draws among 64 positions: a query of two finds both in 64 * 1 + 64 * 63 * 4 cases.
         mean = Fraction(64 + 64 * 63 * 4, 64**4)
         low, high = one.exact_expected_false_positive_rate(1)
-        self.assertTrue(one.expected_rate(1)[1] < mean and low == one.expected_rate(1)[0])
+        self.assertTrue(
+            one.expected_rate(1)[1] < mean and low == one.expected_rate(1)[0]
+        )
         self.assertTrue(low <= mean <= high)
         below, above = one.expected_false_positive_rate(1)
         self.assertTrue(below <= low <= high <= above)
@@ -470,7 +519,9 @@ class Sizes(unittest.TestCase):
 
     def test_the_text_of_a_filter_hides_its_key(self):
         self.assertEqual(repr(small()), "<Filter: 14400 bits, 10 hashes, the zero key>")
-        self.assertEqual(repr(small(key=COUNTING_KEY)), "<Filter: 14400 bits, 10 hashes, a key>")
+        self.assertEqual(
+            repr(small(key=COUNTING_KEY)), "<Filter: 14400 bits, 10 hashes, a key>"
+        )
 
     def test_the_version(self):
         self.assertRegex(fastbloom.__version__, r"\d+\.\d+\.\d+")
@@ -540,9 +591,13 @@ class Sets(unittest.TestCase):
             if all(word == 2**64 - 1 for word in both):
                 continue
             seen, other = of_words(first, hashes), of_words(second, hashes)
-            self.assertEqual(seen.estimated_union(other), of_words(both, hashes).estimate())
+            self.assertEqual(
+                seen.estimated_union(other), of_words(both, hashes).estimate()
+            )
             all_items = Fraction(items_of(both, hashes))
-            common = Fraction(items_of(first, hashes)) + Fraction(items_of(second, hashes))
+            common = Fraction(items_of(first, hashes)) + Fraction(
+                items_of(second, hashes)
+            )
             common = max(common - all_items, Fraction(0))
             low, high = seen.estimated_common(other)
             self.assertLessEqual(low, common)

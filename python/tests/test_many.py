@@ -20,11 +20,17 @@ from fastbloom import (
     SharedBlockedFilter,
     SharedFilter,
 )
+from peak import peak_of
 
 try:
     import numpy
 except ImportError:
     numpy = None
+
+try:
+    import pandas
+except ImportError:
+    pandas = None
 
 
 def small():
@@ -45,7 +51,9 @@ class Masks(unittest.TestCase):
         for count in (0, 1, 7, 8, 9, 63, 64, 65, 200):
             values = [draw.random() < 0.5 for _ in range(count)]
             number = sum(value << place for place, value in enumerate(values))
-            mask = Mask(bytearray(number.to_bytes((count + 63) // 64 * 8, "little")), count)
+            mask = Mask(
+                bytearray(number.to_bytes((count + 63) // 64 * 8, "little")), count
+            )
             self.assertEqual(len(mask), count)
             self.assertEqual(mask.tolist(), values)
             self.assertEqual(list(mask), values)
@@ -67,7 +75,11 @@ class Masks(unittest.TestCase):
 
     def test_masks_are_equal_by_their_values(self):
         mask = Mask(bytearray(b"\x05"), 3)
-        for other in ([True, False, True], (True, False, True), Mask(bytearray(b"\x05"), 3)):
+        for other in (
+            [True, False, True],
+            (True, False, True),
+            Mask(bytearray(b"\x05"), 3),
+        ):
             self.assertEqual(mask, other)
         for other in (
             [True, False],
@@ -86,7 +98,20 @@ class Masks(unittest.TestCase):
     def test_a_mask_counts_as_a_list_does(self):
         values = [True, False, True]
         mask = Mask(bytearray(b"\x05"), 3)
-        for value in (True, False, 1, 0, 1.0, 0.0, Fraction(1), 2, 0.5, None, [True], "True"):
+        for value in (
+            True,
+            False,
+            1,
+            0,
+            1.0,
+            0.0,
+            Fraction(1),
+            2,
+            0.5,
+            None,
+            [True],
+            "True",
+        ):
             self.assertEqual(mask.count(value), values.count(value), value)
 
     def test_a_mask_has_no_bits_but_its_own(self):
@@ -103,6 +128,32 @@ class Masks(unittest.TestCase):
         mask = Mask(bytearray(b"\x05"), 3)
         self.assertRaises(ValueError, mask.__array__, copy=False)
         self.assertEqual(mask.__array__(copy=True).tolist(), [True, False, True])
+
+    @unittest.skipUnless(numpy, "numpy isn't there")
+    def test_a_mask_is_no_list_of_numbers(self):
+        mask = Mask(bytearray(b"\x06"), 4)
+        values = numpy.array([10, 20, 30, 40])
+        for kind in (int, "u1", float, complex):
+            self.assertRaises(TypeError, numpy.asarray, mask, kind)
+        self.assertRaises(TypeError, values.take, mask)
+        self.assertEqual(values[mask].tolist(), [20, 30])
+        for kind in (bool, object):
+            self.assertEqual(
+                numpy.asarray(mask, kind).tolist(), [False, True, True, False]
+            )
+
+    @unittest.skipUnless(pandas, "pandas isn't there")
+    def test_a_mask_chooses_rows_or_is_refused(self):
+        mask = Mask(bytearray(b"\x06"), 4)
+        row = pandas.Series([10, 20, 30, 40])
+        table = row.to_frame("value")
+        for choose in (row.iloc.__getitem__, table.iloc.__getitem__, row.take):
+            self.assertRaises(TypeError, choose, mask)
+        for choose in (row, row.loc, row.iloc):
+            self.assertEqual(choose[numpy.asarray(mask)].tolist(), [20, 30])
+        for choose in (table, table.loc, table.iloc):
+            self.assertEqual(choose[numpy.asarray(mask)].value.tolist(), [20, 30])
+        self.assertEqual(table.assign(seen=mask).seen.tolist(), mask)
 
 
 class Hashes(unittest.TestCase):
@@ -144,7 +195,12 @@ class Hashes(unittest.TestCase):
         for value in values:
             wanted.add_hash(value)
         raw = array.array("Q", values)
-        buffers = [raw, memoryview(raw), memoryview(bytes(raw)).cast("Q"), memoryview(raw)[:2]]
+        buffers = [
+            raw,
+            memoryview(raw),
+            memoryview(bytes(raw)).cast("Q"),
+            memoryview(raw)[:2],
+        ]
         if numpy:
             frozen = numpy.array(values, dtype="u8")
             frozen.flags.writeable = False
@@ -159,6 +215,10 @@ class Hashes(unittest.TestCase):
         self.assertEqual(empty.contains_hashes(array.array("Q")), [])
         self.assertEqual(empty.add_hashes_tell_new(array.array("Q")), [])
         self.assertEqual(empty, small())
+
+    def frozen(self, array):
+        array.flags.writeable = False
+        return array
 
     def test_other_buffers_are_refused(self):
         others = [
@@ -176,14 +236,22 @@ class Hashes(unittest.TestCase):
                 numpy.array([1]),
                 numpy.array([1], dtype=">u8"),
                 numpy.zeros((4, 4), dtype="u8")[:, ::2],
+                numpy.zeros((2, 3), dtype="u8", order="F"),
+                self.frozen(numpy.zeros((2, 3), dtype="u8", order="F")),
                 numpy.uint64(5),
                 numpy.float64(1),
             ]
         for make in (small, shared):
             seen = make()
             for other in others:
-                for call in (seen.add_hashes, seen.contains_hashes, seen.add_hashes_tell_new):
-                    self.assertRaises(TypeError, call, other)
+                for call in (
+                    seen.add_hashes,
+                    seen.contains_hashes,
+                    seen.add_hashes_tell_new,
+                ):
+                    self.assertRaisesRegex(
+                        TypeError, "^hashes |bytes-like", call, other
+                    )
             self.assertEqual(seen.count_ones(), 0)
 
     @unittest.skipUnless(numpy, "there is no numpy")
@@ -232,7 +300,9 @@ class Items(unittest.TestCase):
             ):
                 seen = make()
                 self.assertRaises(error, seen.update, items)
-                self.assertEqual(seen.contains_many(["crab", "eel", "whale"]), [True, True, False])
+                self.assertEqual(
+                    seen.contains_many(["crab", "eel", "whale"]), [True, True, False]
+                )
 
     def test_several_at_once(self):
         for make in (small, shared):
@@ -241,7 +311,8 @@ class Items(unittest.TestCase):
             seen = make()
             seen.update(["crab"], iter([b"eel"]), other, ())
             self.assertEqual(
-                seen.contains_many(["crab", "eel", "lobster", "whale"]), [True, True, True, False]
+                seen.contains_many(["crab", "eel", "lobster", "whale"]),
+                [True, True, True, False],
             )
             seen.update()
             before = seen.count_ones()
@@ -250,6 +321,38 @@ class Items(unittest.TestCase):
             odd = type(seen)(10, "1/1000")
             self.assertRaises(ValueError, seen.update, ["whale"], odd)
             self.assertEqual(seen.count_ones(), before)
+
+    def test_what_is_no_many_items_is_told_another_call(self):
+        seen = small()
+        many = [
+            memoryview(array.array("d", [1.5])),
+            array.array("Q", [1]),
+            array.array("i", [1]),
+        ]
+        if numpy:
+            many += [
+                numpy.array([1, 2], dtype="u8"),
+                numpy.array([1.5]),
+                numpy.uint64(5),
+            ]
+        for numbers in many:
+            for call, other in (
+                (seen.update, "add_hashes"),
+                (seen.contains_many, "contains_hashes"),
+            ):
+                self.assertRaisesRegex(
+                    TypeError, f"numbers, .* `{other}` takes", call, numbers
+                )
+        released = memoryview(b"crab")
+        released.release()
+        for one in ("crab", b"crab", bytearray(b"crab"), memoryview(b"crab"), released):
+            self.assertRaisesRegex(
+                TypeError, "one item, which `add` takes", seen.update, one
+            )
+            self.assertRaisesRegex(
+                TypeError, "one item, which `in` takes", seen.contains_many, one
+            )
+        self.assertEqual(seen.count_ones(), 0)
 
 
 class Sets(unittest.TestCase):
@@ -289,7 +392,9 @@ class Sets(unittest.TestCase):
 
     def test_subsets(self):
         for less, more in ((self.few, self.more), (small(), self.few)):
-            self.assertTrue(less <= more and less < more and more >= less and more > less)
+            self.assertTrue(
+                less <= more and less < more and more >= less and more > less
+            )
             self.assertTrue(less.issubset(more) and more.issuperset(less))
             self.assertFalse(more <= less or more < less or less >= more or less > more)
             self.assertFalse(more.issubset(less) or less.issuperset(more))
@@ -304,6 +409,19 @@ class Sets(unittest.TestCase):
             self.few <= {"crab"}
         with self.assertRaises(TypeError):
             self.few > None
+
+    def test_subsets_are_told_with_no_copy(self):
+        for cls in (Filter, BlockedFilter, SharedFilter, SharedBlockedFilter):
+            few, more = cls(1_000_000, "1/1000"), cls(1_000_000, "1/1000")
+            few.update(["crab", "eel"])
+            more.update(["crab", "eel"])
+            last = 2**64 - 1  # of which a bit is in the last words
+            more.add_hash(last)
+            for less, wanted in ((few, True), (more, False)):
+                answers = []
+                peak = peak_of(lambda: answers.append(less <= few and few <= more))
+                self.assertEqual(answers, [wanted])
+                self.assertLess(peak, 8 * few.num_words // 2)
 
     def test_about_how_many(self):
         self.assertEqual(small().approx_items, 0)
@@ -321,7 +439,9 @@ class Memory(unittest.TestCase):
     def test_the_words_are_seen_and_not_copied(self):
         seen = small()
         view = seen.view()
-        self.assertEqual((view.format, len(view), view.readonly), ("Q", seen.num_words, True))
+        self.assertEqual(
+            (view.format, len(view), view.readonly), ("Q", seen.num_words, True)
+        )
         self.assertEqual(sum(view), 0)
         seen.add("crab")
         self.assertEqual(view.tolist(), seen.words())
@@ -331,7 +451,8 @@ class Memory(unittest.TestCase):
     def test_the_size_has_the_words(self):
         one, other = Filter(10, "1/2"), Filter(100_000, "1/2")
         self.assertEqual(
-            sys.getsizeof(other) - sys.getsizeof(one), 8 * (other.num_words - one.num_words)
+            sys.getsizeof(other) - sys.getsizeof(one),
+            8 * (other.num_words - one.num_words),
         )
 
     def test_pickles_hand_the_words_out(self):
@@ -354,7 +475,12 @@ class Memory(unittest.TestCase):
 
     def test_a_pickle_of_no_filter_is_refused(self):
         restored = fastbloom._plain._restored_words
-        for hashes, words in ((0, bytes(8)), (2**32, bytes(8)), (1, b""), (1, bytes(9))):
+        for hashes, words in (
+            (0, bytes(8)),
+            (2**32, bytes(8)),
+            (1, b""),
+            (1, bytes(9)),
+        ):
             self.assertRaises(ValueError, restored, Filter, hashes, bytes(16), words)
         self.assertRaises(ValueError, restored, Filter, 1, bytes(15), bytes(8))
         self.assertRaises(TypeError, restored, Filter, 1, bytes(16), 8)
@@ -383,7 +509,10 @@ class Types(unittest.TestCase):
                 if (getattr(call, "__module__", None) or "").startswith("fastbloom")
             ]
             calls += [
-                it.fget for _, it in inspect.getmembers(cls, lambda it: isinstance(it, property))
+                it.fget
+                for _, it in inspect.getmembers(
+                    cls, lambda it: isinstance(it, property)
+                )
             ]
             self.assertGreater(len(calls), 5)
             for call in calls:

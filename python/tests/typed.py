@@ -39,7 +39,12 @@ def kept(path: str) -> Tuple[Filter, Own, Optional[int], List[bool]]:
     was_in: bool = mine.add("a text")
     share: Fraction = high - low if was_in else low
     print("a text" in mine, share)
-    return mine, theirs.copy(), mine.estimate().high, mine.contains_many(iter(["a text"]))
+    return (
+        mine,
+        theirs.copy(),
+        mine.estimate().high,
+        mine.contains_many(iter(["a text"])),
+    )
 
 
 def fill(some: AnyFilter, names: List[str]) -> int:
@@ -47,7 +52,9 @@ def fill(some: AnyFilter, names: List[str]) -> int:
     fresh: Mask = some.add_hashes_tell_new(array("Q", [1, 2]))
     high: Optional[int] = some.estimate().high
     print(high, some.false_positive_rate()[1])
-    return fresh.count() + sum(fresh[:1]) + some.count_ones() + some.capacity_for("1/1000")
+    return (
+        fresh.count() + sum(fresh[:1]) + some.count_ones() + some.capacity_for("1/1000")
+    )
 
 
 def sets(mine: Own, other: Filter) -> Tuple[Own, Own, bool, float, memoryview]:
@@ -55,7 +62,13 @@ def sets(mine: Own, other: Filter) -> Tuple[Own, Own, bool, float, memoryview]:
     fill(SharedFilter(10, "1/2"), ["a text"])
     mine.intersection_update(other, ["a text"])
     united = mine.union(other, ["a text"])
-    return united, mine.intersection(other), mine <= other, mine.approx_items, mine.view()
+    return (
+        united,
+        mine.intersection(other),
+        mine <= other,
+        mine.approx_items,
+        mine.view(),
+    )
 
 
 def shared(path: str, memory: bytearray) -> Tuple[Filter, Mask]:
@@ -81,7 +94,9 @@ def in_lines(theirs: BlockedFilter) -> Tuple[BlockedFilter, Mask]:
     ours |= SharedBlockedFilter.map(b"lines.bloom")
     lines |= theirs
     lines.update(theirs, ["a text"])
-    common: Optional[int] = lines.union(theirs, ["a text"]).estimated_common(theirs).high
+    common: Optional[int] = (
+        lines.union(theirs, ["a text"]).estimated_common(theirs).high
+    )
     print(common, lines.issubset(theirs), lines.intersection(theirs) < lines)
     return lines & theirs.copy(), lines.contains_hashes(array("Q", [1]))
 
@@ -89,7 +104,12 @@ def in_lines(theirs: BlockedFilter) -> Tuple[BlockedFilter, Mask]:
 def last(names: List[str]) -> Tuple[Filter, int, float]:
     seen = RotatingFilter(10, "1/1000", key=bytes(16))
     fresh = [name for name in names if not seen.add(name)]
-    print(fresh, "a text" in seen, seen.add_hash(seen.hash(b"bytes")), seen.contains_hash(1))
+    print(
+        fresh,
+        "a text" in seen,
+        seen.add_hash(seen.hash(b"bytes")),
+        seen.contains_hash(1),
+    )
     return seen.older, seen.taken, seen.false_positive_rate()[1]
 
 

@@ -4,11 +4,21 @@ from __future__ import annotations
 
 import copy
 import pickle
-from typing import Any, Iterable, TypeVar, Union
+from typing import Any, BinaryIO, Iterable, Self, TypeVar, Union
 
 from . import _core
-from ._base import Base, Kind, Self
-from ._checks import CUT, HEAD, SEAL, Limit, Refusal, check_file, number_of_hashes, unless_refused
+from ._base import Base, Kind
+from ._checks import (
+    CUT,
+    HEAD,
+    SEAL,
+    Limit,
+    Refusal,
+    check_file,
+    number_of_hashes,
+    unless_refused,
+)
+from ._copies import add_attributes, attributes_of, state_of
 from ._files import Path, map_file, open_regular, size_of, write_file
 from ._items import Buffer, Item, plain_bytes
 
@@ -20,7 +30,9 @@ def _restored(cls: type[_Plain], data: bytes) -> _Plain:
     return cls.from_bytes(data, max_hashes=None)
 
 
-def _restored_words(cls: type[_Plain], num_hashes: int, key: bytes, words: Buffer) -> _Plain:
+def _restored_words(
+    cls: type[_Plain], num_hashes: int, key: bytes, words: Buffer
+) -> _Plain:
     """The filter that was pickled as words, which are copied: they may be another filter's."""
     with memoryview(words).cast("B") as data:
         if not data.nbytes or data.nbytes % cls._unit:
@@ -28,33 +40,6 @@ def _restored_words(cls: type[_Plain], num_hashes: int, key: bytes, words: Buffe
         view = cls._new_memory(data.nbytes // 8)
         view[:] = data
     return cls._of(view, number_of_hashes(num_hashes), key)
-
-
-def _attributes_of(made: object) -> tuple[dict[str, Any], dict[str, Any]]:
-    """What a subclass adds: its attributes, and those of them that have slots."""
-    slots = {}
-    for cls in type(made).__mro__:
-        names = () if cls is Base else vars(cls).get("__slots__", ())
-        for name in (names,) if isinstance(names, str) else names:
-            if name.startswith("__") and not name.endswith("__"):
-                name = f"_{cls.__name__.lstrip('_')}{name}"  # how Python keeps a private name
-            if name not in ("__dict__", "__weakref__") and hasattr(made, name):
-                slots[name] = getattr(made, name)
-    return getattr(made, "__dict__", {}), slots
-
-
-def _state_of(made: object) -> Any:
-    """What a subclass adds, as pickle takes it."""
-    attributes, slots = _attributes_of(made)
-    return (attributes or None, slots) if slots else attributes or None
-
-
-def _add_attributes(made: object, added: tuple[dict[str, Any], dict[str, Any]]) -> None:
-    attributes, slots = added
-    if attributes:
-        made.__dict__.update(attributes)
-    for name, value in slots.items():
-        setattr(made, name, value)
 
 
 class Plain(Base[Kind]):
@@ -98,7 +83,9 @@ class Plain(Base[Kind]):
         """A filter, or that of items, with as many words and hashes as this one, and its key."""
         if isinstance(other, self._kind):
             return other
-        made = self._kind._of(self._new_memory(self.num_words), self.num_hashes, self.key)
+        made = self._kind._of(
+            self._new_memory(self.num_words), self.num_hashes, self.key
+        )
         made.update(other)
         return made
 
@@ -122,7 +109,7 @@ class Plain(Base[Kind]):
     def copy(self) -> Self:
         """A filter with words of its own, which are equal to these."""
         made = self._copy()
-        _add_attributes(made, _attributes_of(self))
+        add_attributes(made, attributes_of(self))
         return made
 
     __copy__ = copy
@@ -130,12 +117,12 @@ class Plain(Base[Kind]):
     def __deepcopy__(self, memo: Any) -> Self:
         made = self._copy()
         memo[id(self)] = made
-        _add_attributes(made, copy.deepcopy(_attributes_of(self), memo))
+        add_attributes(made, copy.deepcopy(attributes_of(self), memo))
         return made
 
     def __reduce__(self) -> tuple[Any, ...]:
         """Pickles the bytes of the file, which have the key, and what a subclass adds."""
-        return _restored, (type(self), self.to_bytes()), _state_of(self)
+        return _restored, (type(self), self.to_bytes()), state_of(self)
 
     def __reduce_ex__(self, protocol: Any) -> Any:
         """From protocol 5 on it hands out the words themselves, which `buffer_callback` may take.
@@ -146,7 +133,7 @@ class Plain(Base[Kind]):
             return self.__reduce__()
         words = pickle.PickleBuffer(self._view.toreadonly())
         made = type(self), self.num_hashes, self.key, words
-        return _restored_words, made, _state_of(self)
+        return _restored_words, made, state_of(self)
 
     def __sizeof__(self) -> int:
         """The bytes of memory, those of its words included."""
@@ -171,14 +158,25 @@ class Plain(Base[Kind]):
     def save(self, path: Path, sealed: bool = True) -> None:
         """Writes a file, whole or not at all. It raises OSError where that fails.
 
-        A file that it replaces hands its rights on, and a link is replaced itself. A reader of a
-        sealed file finds out whether a byte was changed. A file that is to be changed while others
-        map it is not sealed.
+        A file that it replaces hands its rights on. A link stays, and the file to which it leads is
+        replaced. A device, a pipe and a descriptor of the process, as `/dev/stdout`, are written as
+        a stream. The words are read part by part, so that other threads may add in between: what
+        was added before is in the file. A reader of a sealed file finds out whether a byte was
+        changed. A file that is to be changed while others map it is not sealed.
         """
-        write_file(path, self.to_bytes(sealed))
+
+        def write(file: BinaryIO) -> None:
+            unless_refused(self._write(file.fileno(), sealed))
+
+        def write_stream(stream: BinaryIO) -> None:
+            stream.write(self.to_bytes(sealed))
+
+        write_file(path, write, write_stream)
 
     @classmethod
-    def from_bytes(cls, data: Buffer, *, max_hashes: Limit = 64, max_words: Limit = None) -> Self:
+    def from_bytes(
+        cls, data: Buffer, *, max_hashes: Limit = 64, max_words: Limit = None
+    ) -> Self:
         """The filter of a file's bytes, which are copied.
 
         Bytes that are no such file raise Refusal, which is a ValueError, with the first reason; so
@@ -195,7 +193,12 @@ class Plain(Base[Kind]):
 
     @classmethod
     def load(
-        cls, path: Path, *, max_hashes: Limit = 64, max_words: Limit = None, mapped: bool = False
+        cls,
+        path: Path,
+        *,
+        max_hashes: Limit = 64,
+        max_words: Limit = None,
+        mapped: bool = False,
     ) -> Self:
         """The filter of a file, which is read into memory.
 

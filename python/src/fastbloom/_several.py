@@ -5,9 +5,8 @@ from __future__ import annotations
 import copy
 import threading
 from fractions import Fraction
-from typing import Any, Iterable, Union
+from typing import Any, Iterable, Self, Union
 
-from ._base import Self
 from ._blocked import BlockedFilter
 from ._checks import number_of_items, rate_parts
 from ._copies import add_attributes, attributes_of, state_of
@@ -96,7 +95,12 @@ class Several:
     def _parts(self) -> tuple[Any, ...]:
         """Copies of the filters, and the numbers, as they are at one instant."""
         with self._lock:
-            return [it.copy() for it in self._filters], self._items, self._rate, self._taken
+            return (
+                [it.copy() for it in self._filters],
+                self._items,
+                self._rate,
+                self._taken,
+            )
 
     def copy(self) -> Self:
         """A filter with words of its own, which goes on as this one does."""

@@ -3,11 +3,19 @@
 from __future__ import annotations
 
 import mmap
-from typing import Any, Callable, ClassVar, Generic, NoReturn, TypeVar
+from typing import Any, Callable, ClassVar, Generic, NoReturn, Self, TypeVar
 
-from ._base import BLOCKED, SHARED, Base, Kind, Self
+from ._base import BLOCKED, SHARED, Base, Kind
 from ._blocked import BlockedFilter, Lines
-from ._checks import EMPTY_WORDS, HEAD, TOO_MANY_WORDS, Limit, Refusal, check_file, number_of_hashes
+from ._checks import (
+    EMPTY_WORDS,
+    HEAD,
+    TOO_MANY_WORDS,
+    Limit,
+    Refusal,
+    check_file,
+    number_of_hashes,
+)
 from ._files import Path, map_file, open_regular, shared_memory, size_of
 from ._filter import Filter, Words
 from ._items import Buffer
@@ -29,7 +37,9 @@ class Shared(Base[Kind], Generic[Kind, OfWords]):
 
     __slots__ = ()
     _plain: ClassVar[type[Plain[Any]]]
-    _new_memory = staticmethod(lambda num_words: memoryview(shared_memory(8 * num_words)))
+    _new_memory = staticmethod(
+        lambda num_words: memoryview(shared_memory(8 * num_words))
+    )
 
     @classmethod
     def over(cls, buffer: Buffer, num_hashes: int, key: Buffer = bytes(16)) -> Self:
@@ -40,10 +50,14 @@ class Shared(Base[Kind], Generic[Kind, OfWords]):
         the filter is blocked, or aren't aligned to 8, or a number is out of range. Lines are best
         aligned to 64. TypeError: it can't be written, or the number is no integer.
         """
-        return cls._over(memoryview(buffer).cast("B"), number_of_hashes(num_hashes), key)
+        return cls._over(
+            memoryview(buffer).cast("B"), number_of_hashes(num_hashes), key
+        )
 
     @classmethod
-    def map(cls, path: Path, *, max_hashes: Limit = 64, max_words: Limit = None) -> Self:
+    def map(
+        cls, path: Path, *, max_hashes: Limit = 64, max_words: Limit = None
+    ) -> Self:
         """The filter of a file, whose words all processes fill that map it.
 
         What is added goes into the file. It must have no seal, which adds would make wrong: make it
@@ -53,7 +67,9 @@ class Shared(Base[Kind], Generic[Kind, OfWords]):
         """
         with open_regular(path, "r+b") as file:
             head, size = file.read(HEAD), size_of(file)
-            _, num_hashes, key, seal = check_file(head, size, cls._number, max_hashes, max_words)
+            _, num_hashes, key, seal = check_file(
+                head, size, cls._number, max_hashes, max_words
+            )
             if seal:
                 raise ValueError("the file has a seal, which adds would make wrong")
             memory = map_file(file, size, mmap.ACCESS_WRITE)
@@ -97,10 +113,8 @@ class Shared(Base[Kind], Generic[Kind, OfWords]):
     _copy = _now = load
 
     def _copied(self, copy: Callable[[Any], bool]) -> OfWords:
-        num_words = self.num_words
-        plain: Any = self._plain._of(
-            self._plain._new_memory(num_words), self.num_hashes, self.key
-        )
+        view = self._plain._new_memory(self.num_words)
+        plain: Any = self._plain._of(view, self.num_hashes, self.key)
         if not copy(plain):  # it was released
             raise Refusal(EMPTY_WORDS)
         return plain  # type: ignore[no-any-return]
