@@ -30,7 +30,7 @@ setup(
             extra_objects=[str(LIBRARY / "libfastbloom_c.a")],
             extra_compile_args=["-std=c11", "-O2", "-fvisibility=hidden"],
             extra_link_args=[
-                "-Wl,--exclude-libs,ALL,--gc-sections,-z,defs,-z,relro,-z,now"
+                "-Wl,--exclude-libs,ALL,--gc-sections,-z,relro,-z,now"
             ],
             py_limited_api=True,
         )

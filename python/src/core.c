@@ -210,9 +210,9 @@ static PyObject *filter_take(PyObject *self, PyObject *arguments) {
     PyObject *view;
     const char *key;
     Py_ssize_t len;
+    uint32_t num_hashes;
     unsigned kind;
-    if (!PyArg_ParseTuple(arguments, "OIy#I", &view, &it->num_hashes, &key, &len, &kind))
-        return NULL;
+    if (!PyArg_ParseTuple(arguments, "OIy#I", &view, &num_hashes, &key, &len, &kind)) return NULL;
     if (it->view != NULL) {
         PyErr_SetString(PyExc_TypeError, "a filter is made once");
         return NULL;
@@ -223,8 +223,16 @@ static PyObject *filter_take(PyObject *self, PyObject *arguments) {
     }
     if (PyObject_GetBuffer(view, &it->buffer, kind & SHARED ? PyBUF_WRITABLE : PyBUF_SIMPLE)) {
         it->buffer.obj = NULL;
+        if (PyErr_ExceptionMatches(PyExc_BufferError))
+            PyErr_SetString(PyExc_TypeError, "the words can't be written");
         return NULL;
     }
+    if ((uintptr_t)it->buffer.buf % 8 != 0) {
+        PyBuffer_Release(&it->buffer);
+        PyErr_SetString(PyExc_ValueError, "words are of eight bytes, aligned to eight");
+        return NULL;
+    }
+    it->num_hashes = num_hashes;
     it->view = Py_NewRef(view);
     it->words.num_words = (size_t)it->buffer.len / 8;
     it->words.words = it->words.num_words > 0 ? it->buffer.buf : none;
@@ -746,23 +754,29 @@ static PyGetSetDef filter_fields[] = {
 
 static PyMethodDef filter_methods[] = {
     {"add", filter_add, METH_O,
-     "add(item): Adds an item, and returns whether it was contained before.\n\n"
+     "add($self, item, /)\n--\n\n"
+     "Adds an item, and returns whether it was contained before.\n\n"
      "True may be a false positive. In a shared filter, False comes exactly if this call set a\n"
      "bit itself."},
     {"hash", filter_hash, METH_O,
-     "hash(item): The hash of an item: SipHash-1-3 of its bytes under the key."},
+     "hash($self, item, /)\n--\n\n"
+     "The hash of an item: SipHash-1-3 of its bytes under the key."},
     {"add_hash", filter_add_hash, METH_O,
-     "add_hash(value): As `add`, by the hash. One out of range raises ValueError."},
+     "add_hash($self, value, /)\n--\n\n"
+     "As `add`, by the hash. One out of range raises ValueError."},
     {"contains_hash", filter_contains_hash, METH_O,
-     "contains_hash(value): As `in`, by the hash. One out of range raises ValueError."},
+     "contains_hash($self, value, /)\n--\n\n"
+     "As `in`, by the hash. One out of range raises ValueError."},
     {"add_hashes", filter_add_hashes, METH_O,
-     "add_hashes(hashes): Adds each hash of a buffer of words of 64 bits, as of an array.\n\n"
+     "add_hashes($self, hashes, /)\n--\n\n"
+     "Adds each hash of a buffer of words of 64 bits, as of an array, by one call.\n\n"
      "Such a buffer is an `array(\"Q\")`, an array of numpy of kind `uint64`, or a view of one.\n"
      "Any other raises TypeError. What isn't aligned to eight is copied first. Threads that call\n"
      "it of a shared filter, with buffers of their own, run side by side. No thread changes the\n"
      "buffer meanwhile."},
-    {"clear", filter_clear_words, METH_NOARGS, "clear(): Removes every item."},
-    {"count_ones", filter_count_ones, METH_NOARGS, "count_ones(): How many of its bits are set."},
+    {"clear", filter_clear_words, METH_NOARGS, "clear($self, /)\n--\n\nRemoves every item."},
+    {"count_ones", filter_count_ones, METH_NOARGS,
+     "count_ones($self, /)\n--\n\nHow many of its bits are set."},
     {"_take", filter_take, METH_VARARGS, NULL},
     {"_release", filter_release, METH_O, NULL},
     {"_add_items", filter_add_items, METH_O, NULL},

@@ -1,4 +1,4 @@
-"""Threads that change one filter at once: `storm.py` prints what each case lost, which is nothing."""
+"""Threads that change one filter at once. Each case returns how many items were lost: none."""
 
 import threading
 
@@ -131,7 +131,3 @@ CASES = (
     unions_both_ways,
     files_beside_adds,
 )
-
-if __name__ == "__main__":
-    for case in CASES:
-        print(case.__name__, case())

@@ -535,12 +535,13 @@ class Types(unittest.TestCase):
             for _, call in inspect.getmembers(cls, inspect.isroutine)
             if (getattr(call, "__module__", None) or "").startswith("fastbloom")
         ]
-        self.assertIn(Filter.add, calls)
+        self.assertIn(Filter.contains_many, calls)
         for call in calls:
             typing.get_type_hints(call)
-        self.assertIs(typing.get_type_hints(Filter.add)["return"], bool)
-        self.assertIn(str, typing.get_args(typing.get_type_hints(Filter.add)["item"]))
-        self.assertIn("_num_hashes", typing.get_type_hints(Filter))
+        self.assertEqual(
+            typing.get_type_hints(Filter.contains_many)["return"], list[bool]
+        )
+        self.assertEqual(str(inspect.signature(Filter.add)), "(self, item, /)")
 
 
 class Sets(unittest.TestCase):

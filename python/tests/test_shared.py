@@ -5,7 +5,8 @@ import mmap
 import multiprocessing
 import os
 import pickle
-import sys
+import threading
+import time
 import tempfile
 import threading
 import unittest
@@ -349,32 +350,45 @@ class Calls(unittest.TestCase):
         memory.close()
 
     def test_a_call_that_a_release_interrupts_ends_with_the_words_that_it_had(self):
-        """What is called for each function of Python releases the filter, once a call has begun."""
+        """Another thread releases the filter, and closes its memory once no call has it."""
+        hashes = array.array("Q", range(0, 2**64, 2**42))
         for filters in (SharedFilter, SharedBlockedFilter):
-            for name in ("contains_hashes", "add_hashes_tell_new"):
-                memory = mmap.mmap(-1, 4096)
-                seen = filters.over(memory, 1)
-                seen.add_hashes(array.array("Q", [5]))
-                closed = []
+            for name in ("add_hashes", "contains_hashes", "add_hashes_tell_new"):
+                memory, started = mmap.mmap(-1, 1 << 22), threading.Event()
+                seen = filters.over(memory, 7)
 
-                def release(frame, event, _):
-                    if frame.f_code.co_name == "told":
-                        sys.settrace(None)
-                        seen.release()
+                def release():
+                    started.wait()
+                    seen.release()
+                    while not memory.closed:
                         try:
                             memory.close()
-                        except BufferError as error:
-                            closed.append(str(error))
+                        except BufferError:
+                            time.sleep(0)
 
-                before = sys.gettrace()
-                try:
-                    sys.settrace(release)
-                    told = getattr(seen, name)(array.array("Q", [5, 6]))
-                finally:
-                    sys.settrace(before)
-                self.assertEqual(told[0], name == "contains_hashes")
-                self.assertEqual((len(closed), seen.num_words), (1, 0))
-                memory.close()
+                other = threading.Thread(target=release)
+                other.start()
+                started.set()
+                for _ in range(3):
+                    told = getattr(seen, name)(hashes)
+                other.join()
+                self.assertEqual((seen.num_words, memory.closed), (0, True))
+                if told is not None:
+                    self.assertEqual(told.count(), 0)
+
+    def test_an_item_that_releases_the_words_is_not_kept(self):
+        for filters, size in ((SharedFilter, 8), (SharedBlockedFilter, 64)):
+            memory = bytearray(size)
+            seen = filters.over(memory, 1)
+
+            def items():
+                yield "crab"
+                seen.release()
+                memory.append(0)  # which a view of it would refuse
+                yield "eel"
+
+            seen.update(items())
+            self.assertEqual((bytes(memory), seen.num_words), (bytes(size + 1), 0))
 
     def test_a_buffer_that_was_refused_is_not_kept(self):
         for filters in (SharedFilter, SharedBlockedFilter):
