@@ -226,6 +226,7 @@ typedef struct cursor {
     sqlite3_vtab_cursor base;
     bool has_row;
     sqlite3_value *item;
+    uint64_t hash; /* the row's number: SQLite takes rows of one number for one row */
 } cursor;
 
 static int refuse(table *t, const char *why) {
@@ -439,7 +440,7 @@ static int begin(sqlite3_vtab_cursor *base, int what, const char *text, int argc
                  sqlite3_value **argv) {
     cursor *c = (cursor *)base;
     table *t = (table *)base->pVtab;
-    uint64_t hash, line[WORDS];
+    uint64_t line[WORDS];
     size_t from;
     (void)text, (void)argc;
     sqlite3_value_free(c->item);
@@ -447,12 +448,12 @@ static int begin(sqlite3_vtab_cursor *base, int what, const char *text, int argc
     if (what == LIST) return refuse(t, "a filter answers only WHERE item = .. COLLATE BINARY");
     int code = need_head(t);
     if (code != SQLITE_OK || what == ABOUT) return code;
-    int known = hash_of(argv[0], t->f.key, &hash);
+    int known = hash_of(argv[0], t->f.key, &c->hash);
     if (known <= 0) return known == 0 ? SQLITE_OK : SQLITE_NOMEM;
-    sqlite3_int64 row = row_of(t, hash, &from);
+    sqlite3_int64 row = row_of(t, c->hash, &from);
     code = read_row(t, row, from, LINE, line);
     if (code != SQLITE_OK) return code;
-    c->has_row = fastbloom_blocked_contains_hash(line, WORDS, t->f.num_hashes, hash);
+    c->has_row = fastbloom_blocked_contains_hash(line, WORDS, t->f.num_hashes, c->hash);
     return c->has_row && (c->item = sqlite3_value_dup(argv[0])) == NULL ? SQLITE_NOMEM : SQLITE_OK;
 }
 
@@ -500,7 +501,7 @@ static int column(sqlite3_vtab_cursor *base, sqlite3_context *context, int numbe
 }
 
 static int row_id(sqlite3_vtab_cursor *base, sqlite3_int64 *id) {
-    (void)base, *id = 1;
+    *id = (sqlite3_int64)((cursor *)base)->hash;
     return SQLITE_OK;
 }
 
