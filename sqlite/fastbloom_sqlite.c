@@ -214,7 +214,8 @@ typedef struct table {
     sqlite3_vtab base;
     sqlite3 *db;
     char *schema, *shadow, *quoted; /* the names of schema and shadow table, and both in SQL */
-    sqlite3_stmt *read;
+    sqlite3_blob *bits; /* the row that was looked into last; closed with the last cursor */
+    size_t cursors;
     uint64_t items, row[LINES * WORDS], other[LINES * WORDS];
     filter f; /* it has no words until the head was read */
 } table;
@@ -260,21 +261,28 @@ static size_t bytes_of(const table *t, sqlite3_int64 row) {
     return before >= lines ? 0 : LINE * (lines - before < LINES ? lines - before : LINES);
 }
 
-/* Copies a part of a row, or all of it. */
-static int read_row(table *t, sqlite3_int64 row, size_t from, size_t len, void *to) {
-    if (t->read == NULL) {
-        char *sql = sqlite3_mprintf("SELECT bits FROM %s WHERE page = ?", t->quoted);
-        int made = sql == NULL ? SQLITE_NOMEM : sqlite3_prepare_v2(t->db, sql, -1, &t->read, NULL);
-        sqlite3_free(sql);
-        if (made != SQLITE_OK) return made == SQLITE_ERROR ? refuse_row(t, row) : made;
-    }
-    sqlite3_bind_int64(t->read, 1, row);
-    const uint8_t *bits =
-        sqlite3_step(t->read) == SQLITE_ROW ? sqlite3_column_blob(t->read, 0) : NULL;
-    bool is_right = bits != NULL && (size_t)sqlite3_column_bytes(t->read, 0) == bytes_of(t, row);
-    if (is_right) memcpy(to, bits + from, len);
-    int code = sqlite3_reset(t->read);
-    return code != SQLITE_OK || is_right ? code : refuse_row(t, row);
+/* Opens a row to read or write there, or moves a handle to it. SQLite refuses a view or a virtual
+ * table here, which might read this table in turn. A handle that writes doesn't stay open behind an
+ * insert, where it would be in the way of COMMIT. */
+static int open_row(table *t, sqlite3_int64 row, bool writes, sqlite3_blob **bits) {
+    int code = *bits != NULL
+                   ? sqlite3_blob_reopen(*bits, row)
+                   : sqlite3_blob_open(t->db, t->schema, t->shadow, "bits", row, writes, bits);
+    bool is_wrong = code == SQLITE_OK && (size_t)sqlite3_blob_bytes(*bits) != bytes_of(t, row);
+    return is_wrong || code == SQLITE_ERROR ? refuse_row(t, row) : code;
+}
+
+static int close_row(sqlite3_blob *bits, int code) {
+    int closed = sqlite3_blob_close(bits);
+    return code != SQLITE_OK ? code : closed;
+}
+
+/* Copies a part of a row. */
+static int read_part(table *t, sqlite3_int64 row, size_t from, size_t len, void *to) {
+    sqlite3_blob *bits = NULL;
+    int code = open_row(t, row, false, &bits);
+    if (code == SQLITE_OK) code = sqlite3_blob_read(bits, to, (int)len, (int)from);
+    return close_row(bits, code);
 }
 
 /* Reads the head, once. */
@@ -282,7 +290,7 @@ static int need_head(table *t) {
     uint8_t head[HEAD];
     uint64_t seal;
     if (t->f.num_words > 0) return SQLITE_OK;
-    int code = read_row(t, 0, 0, HEAD, head);
+    int code = read_part(t, 0, 0, HEAD, head);
     if (code != SQLITE_OK || read_head(head, &t->f, &seal) == FASTBLOOM_OK) return code;
     t->f.num_words = 0;
     return refuse_row(t, 0);
@@ -297,7 +305,6 @@ static sqlite3_int64 row_of(const table *t, uint64_t hash, size_t *from) {
 
 static int disconnect(sqlite3_vtab *base) {
     table *t = (table *)base;
-    sqlite3_finalize(t->read);
     sqlite3_free(t->schema);
     sqlite3_free(t->shadow);
     sqlite3_free(t->quoted);
@@ -306,10 +313,13 @@ static int disconnect(sqlite3_vtab *base) {
     return SQLITE_OK;
 }
 
+/* A view in the shadow table's place is dropped, too. What SQLite can't drop there, such as a table
+ * of a module that isn't loaded, stays, and is in the way of a new filter by its name. */
 static int destroy(sqlite3_vtab *base) {
     table *t = (table *)base;
     int code = run(t->db, "DROP TABLE IF EXISTS %s", t->quoted);
-    return code == SQLITE_OK ? disconnect(base) : code;
+    if (code == SQLITE_ERROR) code = run(t->db, "DROP VIEW IF EXISTS %s", t->quoted);
+    return code == SQLITE_OK || code == SQLITE_ERROR ? disconnect(base) : code;
 }
 
 /* Reads 32 hexadecimal digits. */
@@ -342,20 +352,6 @@ static const char *read_arguments(int argc, const char *const *argv, uint64_t *i
     return plan(*items, rate, f);
 }
 
-/* Opens a row to write there, or moves a handle to it. None stays open behind an insert, where it
- * would be in the way of COMMIT. */
-static int open_row(table *t, sqlite3_int64 row, sqlite3_blob **bits) {
-    int code = *bits != NULL ? sqlite3_blob_reopen(*bits, row)
-                             : sqlite3_blob_open(t->db, t->schema, t->shadow, "bits", row, 1, bits);
-    bool is_wrong = code == SQLITE_OK && (size_t)sqlite3_blob_bytes(*bits) != bytes_of(t, row);
-    return is_wrong || code == SQLITE_ERROR ? refuse_row(t, row) : code;
-}
-
-static int close_row(sqlite3_blob *bits, int code) {
-    int closed = sqlite3_blob_close(bits);
-    return code != SQLITE_OK ? code : closed;
-}
-
 /* Writes the empty filter, row by row. */
 static int write_empty(table *t) {
     static const char insert[] = "INSERT INTO %s VALUES(%lld, zeroblob(%d))";
@@ -365,7 +361,7 @@ static int write_empty(table *t) {
     for (sqlite3_int64 row = 0; code == SQLITE_OK && (len = (int)bytes_of(t, row)) > 0; row++)
         code = run(t->db, insert, t->quoted, row, len);
     (void)!fastbloom_blocked_head_write(t->f.num_words, t->f.num_hashes, t->f.key, 0, head);
-    if (code == SQLITE_OK) code = open_row(t, 0, &bits);
+    if (code == SQLITE_OK) code = open_row(t, 0, true, &bits);
     if (code == SQLITE_OK) code = sqlite3_blob_write(bits, head, HEAD, 0);
     return close_row(bits, code);
 }
@@ -425,12 +421,18 @@ static int best_index(sqlite3_vtab *base, sqlite3_index_info *info) {
 
 static int open_cursor(sqlite3_vtab *base, sqlite3_vtab_cursor **made) {
     cursor *c = sqlite3_malloc64(sizeof *c);
-    (void)base;
-    if (c != NULL) *made = memset(c, 0, sizeof *c);
-    return c != NULL ? SQLITE_OK : SQLITE_NOMEM;
+    if (c == NULL) return SQLITE_NOMEM;
+    *made = memset(c, 0, sizeof *c);
+    ((table *)base)->cursors++;
+    return SQLITE_OK;
 }
 
 static int close_cursor(sqlite3_vtab_cursor *base) {
+    table *t = (table *)base->pVtab;
+    if (--t->cursors == 0) {
+        sqlite3_blob_close(t->bits);
+        t->bits = NULL;
+    }
     sqlite3_value_free(((cursor *)base)->item);
     sqlite3_free(base);
     return SQLITE_OK;
@@ -451,7 +453,13 @@ static int begin(sqlite3_vtab_cursor *base, int what, const char *text, int argc
     int known = hash_of(argv[0], t->f.key, &c->hash);
     if (known <= 0) return known == 0 ? SQLITE_OK : SQLITE_NOMEM;
     sqlite3_int64 row = row_of(t, c->hash, &from);
-    code = read_row(t, row, from, LINE, line);
+    code = open_row(t, row, false, &t->bits);
+    if ((code & 255) == SQLITE_ABORT) { /* an error or a rollback has ended the handle */
+        sqlite3_blob_close(t->bits);
+        t->bits = NULL;
+        code = open_row(t, row, false, &t->bits);
+    }
+    if (code == SQLITE_OK) code = sqlite3_blob_read(t->bits, line, LINE, (int)from);
     if (code != SQLITE_OK) return code;
     c->has_row = fastbloom_blocked_contains_hash(line, WORDS, t->f.num_hashes, c->hash);
     return c->has_row && (c->item = sqlite3_value_dup(argv[0])) == NULL ? SQLITE_NOMEM : SQLITE_OK;
@@ -491,7 +499,7 @@ static int column(sqlite3_vtab_cursor *base, sqlite3_context *context, int numbe
     f.file = sqlite3_malloc64(HEAD + 8 * f.num_words);
     int code = f.file == NULL ? SQLITE_NOMEM : SQLITE_OK;
     for (sqlite3_int64 row = 1; code == SQLITE_OK && (bytes = bytes_of(t, row)) > 0; row++) {
-        code = read_row(t, row, 0, bytes, f.file + at);
+        code = read_part(t, row, 0, bytes, f.file + at);
         at += bytes;
     }
     if (code == SQLITE_OK && number == COLUMN_INFO) result_info(context, t->items, &f);
@@ -510,7 +518,7 @@ static int insert_hash(table *t, uint64_t hash, bool *is_new) {
     size_t from;
     sqlite3_int64 row = row_of(t, hash, &from);
     sqlite3_blob *bits = NULL;
-    int code = open_row(t, row, &bits);
+    int code = open_row(t, row, true, &bits);
     if (code == SQLITE_OK) code = sqlite3_blob_read(bits, line, LINE, (int)from);
     *is_new =
         code == SQLITE_OK && !fastbloom_blocked_insert_hash(line, WORDS, t->f.num_hashes, hash);
@@ -532,9 +540,9 @@ static int insert_file(table *t, sqlite3_value *value) {
     int code = SQLITE_OK;
     /* A damaged row is refused before another one is written, which SQLite may not undo. */
     for (sqlite3_int64 row = 1; code == SQLITE_OK && bytes_of(t, row) > 0; row++)
-        code = open_row(t, row, &bits);
+        code = open_row(t, row, true, &bits);
     for (sqlite3_int64 row = 1; code == SQLITE_OK && (len = bytes_of(t, row)) > 0; row++) {
-        code = open_row(t, row, &bits);
+        code = open_row(t, row, true, &bits);
         if (code == SQLITE_OK) code = sqlite3_blob_read(bits, t->row, (int)len, 0);
         memcpy(t->other, f.file + at, len);
         at += len;

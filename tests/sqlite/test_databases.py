@@ -1,5 +1,6 @@
 """Tables in databases: transactions, connections, copies, damage and crashes."""
 
+import json
 import os
 import random
 import signal
@@ -76,6 +77,32 @@ def test_a_rename_that_is_undone(db):
     assert db.refuses("a filter answers only", 'SELECT * FROM "we ""ird"')
     db.execute('DROP TABLE "we ""ird"')
     assert db.one("SELECT count(*) FROM sqlite_schema") == 0
+
+
+def test_statements_that_look_up_at_once():
+    """One goes on where it was when others change the filter, are undone, or are refused."""
+    db = connect()
+    db.create(items=10000)
+    db.insert(*ITEMS)
+    looks = "SELECT value FROM json_each(?) WHERE EXISTS(SELECT 1 FROM seen WHERE item = value)"
+    one, two = (db.execute(looks, (json.dumps(ITEMS),)) for _ in "12")
+    assert (next(one), next(two)) == (("k0",), ("k0",))
+    for place, change in enumerate(("INSERT INTO seen(item) VALUES('new')", "CREATE TABLE t(k)")):
+        db.run(f"BEGIN; {change}")
+        assert next(one) == (f"k{2 * place + 1}",)
+        db.execute("ROLLBACK")
+        assert next(one) == (f"k{2 * place + 2}",) and not db.has("new")
+    assert len(two.fetchall()) == len(ITEMS) - 1
+    db.execute("DELETE FROM seen_data WHERE page = 2")
+    gone = [it for it in ITEMS if db.refuses("row 2 of", "SELECT 1 FROM seen WHERE item = ?", it)]
+    there = [it for it in ITEMS if it not in gone]
+    two = db.execute(looks, (json.dumps(there),))
+    assert next(two) == (there[0],) and gone
+    assert db.refuses("row 2 of", looks, json.dumps(gone))
+    assert two.fetchall() == [(it,) for it in there[1:]]
+    one.close()
+    db.execute("DROP TABLE seen")
+    db.close()
 
 
 def test_a_statement_that_fails_midway_is_undone(db):
