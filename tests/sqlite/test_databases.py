@@ -79,6 +79,54 @@ def test_a_rename_that_is_undone(db):
     assert db.one("SELECT count(*) FROM sqlite_schema") == 0
 
 
+def test_a_rename_that_fails_says_why(db):
+    db.insert("old")
+    db.execute("CREATE TABLE other_data(k)")
+    assert db.refuses("other_data", "ALTER TABLE seen RENAME TO other")
+    assert db.has("old") and db.insert("new") == 1
+    db.execute("DROP TABLE other_data")
+    db.execute("DROP TABLE seen_data")
+    assert db.refuses("no such table: main.seen_data", "ALTER TABLE seen RENAME TO other")
+    db.execute("CREATE VIEW seen_data AS SELECT 1 AS page")
+    assert db.refuses("view seen_data may not be altered", "ALTER TABLE seen RENAME TO other")
+    names = "SELECT group_concat(name) FROM sqlite_schema"
+    assert db.one(names) == "seen,seen_data"
+    db.execute("DROP TABLE seen")
+    assert db.one(names) is None
+
+
+def test_a_shadow_table_of_a_module_that_is_missing(tmp_path):
+    """The filter is dropped, and what isn't its own stays."""
+    db = connect(tmp_path / "db")
+    db.create()
+    db.execute("DROP TABLE seen_data")
+    db.execute("PRAGMA writable_schema = ON")
+    made = "CREATE VIRTUAL TABLE seen_data USING missing(page)"
+    db.execute("INSERT INTO sqlite_schema VALUES('table', 'seen_data', 'seen_data', 0, ?)", (made,))
+    db.close()
+    db = connect(tmp_path / "db")
+    assert db.refuses("row 0 of seen_data is damaged", "SELECT info FROM seen")
+    assert db.refuses("no such module: missing", "ALTER TABLE seen RENAME TO other")
+    db.execute("DROP TABLE seen")
+    assert db.one("SELECT group_concat(name) FROM sqlite_schema") == "seen_data"
+    again = "CREATE VIRTUAL TABLE seen USING bloom(items=9, rate='1/9')"
+    assert db.refuses("seen_data", again)
+    db.close()
+
+
+def test_repeated_arguments_of_a_table_that_is_there(tmp_path):
+    """The last of them counts, as it did when the table was made."""
+    db = connect(tmp_path / "db")
+    db.create()
+    db.insert("a")
+    db.execute("PRAGMA writable_schema = ON")
+    db.execute("UPDATE sqlite_schema SET sql = replace(sql, '(items', '(items=5, items')")
+    db.close()
+    db = connect(tmp_path / "db")
+    assert db.has("a") and db.one("SELECT info ->> 'items' FROM seen") == 1000
+    db.close()
+
+
 def test_statements_that_look_up_at_once():
     """One goes on where it was when others change the filter, are undone, or are refused."""
     db = connect()
