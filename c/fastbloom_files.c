@@ -26,6 +26,7 @@ enum {
     NUMBERS = 48,          /* bytes of the head before the layout and the reserved ones */
     LINE = 64,             /* bytes; words that begin at a multiple of them begin a line */
     TRIES = 100,           /* names of a new file that are drawn at most */
+    LINKS = 40,            /* links that are followed at most, as Linux does */
     DRAWN = 16,            /* digits of such a name */
     LIST = 4096,           /* bytes of a list of access rights that is copied, at most */
     MOST_AT_ONCE = 1 << 30 /* bytes that are read or written by one call of the system */
@@ -294,11 +295,16 @@ static uint64_t draw(void) {
     return ((uint64_t)now.tv_sec << 30 ^ (uint64_t)now.tv_nsec) + ((uint64_t)getpid() << 40);
 }
 
+/* How many bytes of a path its folder has, with the last slash. */
+static size_t size_of_folder(const char *path) {
+    const char *slash = strrchr(path, '/');
+    return slash == NULL ? 0 : (size_t)(slash + 1 - path);
+}
+
 /* How many bytes of a path the name of a new file beside it begins with: all, unless the last part
  * of the path is so long that no name has room for more. */
 static int size_of_stem(const char *path) {
-    const char *slash = strrchr(path, '/');
-    size_t folder = slash == NULL ? 0 : (size_t)(slash + 1 - path);
+    size_t folder = size_of_folder(path);
     size_t name = strlen(path + folder), most = NAME_MAX - (sizeof "..part" - 1 + DRAWN);
     return (int)(folder + (name < most ? name : most));
 }
@@ -345,12 +351,13 @@ static bool give_rights(int file, const char *path, const struct statx *old) {
 }
 
 /* Flushes the folder of a file, to which the path is shortened. So the file's new name outlasts a
- * loss of power. */
-static bool flush_folder(char *path) {
+ * loss of power. A folder that may not be read can't be opened for it, and then all of the file's
+ * system of files is flushed. */
+static bool flush_folder(char *path, int file) {
     char *slash = strrchr(path, '/');
     if (slash != NULL) slash[slash == path ? 1 : 0] = '\0';
     int folder = open(slash == NULL ? "." : path, O_RDONLY | O_DIRECTORY | O_CLOEXEC);
-    if (folder < 0) return false;
+    if (folder < 0) return errno == EACCES && syncfs(file) == 0;
     /* (some systems of files have no such call, and need none) */
     bool flushed = fsync(folder) == 0 || errno == EINVAL;
     close_quietly(folder);
@@ -366,8 +373,8 @@ static bool write_part(int file, const uint8_t head[HEAD], const fastbloom_filte
 }
 
 /* Gives a new file that is whole the name of the old one, and else removes it. */
-static bool put_in_place(char *part, const char *path, bool is_whole) {
-    if (is_whole && rename(part, path) == 0) return flush_folder(part);
+static bool put_in_place(char *part, int file, const char *path, bool is_whole) {
+    if (is_whole && rename(part, path) == 0) return flush_folder(part, file);
     int why = errno;
     unlink(part);
     errno = why;
@@ -384,14 +391,102 @@ static uint8_t write_head(const struct kind *kind, const fastbloom_filter *filte
     return kind->head_write(filter->num_words, filter->num_hashes, filter->key, seal, head);
 }
 
-/* Finds out whether there is a file at a path, links followed, and what its rights are. It returns
- * false where that can't be told, and for a folder, a device, a pipe or a socket: a new file
- * replaces none of these. */
-static bool find_old(const char *path, struct statx *old, bool *is_there) {
-    *is_there = statx(AT_FDCWD, path, 0, STATX_TYPE | STATX_MODE | STATX_UID | STATX_GID, old) == 0;
-    if (!*is_there) return errno == ENOENT;
-    if (S_ISREG(old->stx_mode)) return true;
-    errno = S_ISDIR(old->stx_mode) ? EISDIR : EINVAL;
+/* Where a file goes: a path with no link at its end, or an open stream. */
+struct target {
+    char path[PATH_MAX];
+    bool is_there, is_stream;
+    int stream;
+    struct statx about;
+};
+
+/* Whether a folder is the one that has the descriptors of this process. */
+static bool has_descriptors(const char *folder) {
+    char found[PATH_MAX], own[PATH_MAX];
+    return realpath("/proc/self/fd", own) != NULL && realpath(folder, found) != NULL &&
+           strcmp(found, own) == 0;
+}
+
+/* Whether a link may be followed. In a folder where everybody may make files, as /tmp, it is to be
+ * the user's or the folder owner's: another one may lead anywhere. So Linux may have it, too. */
+static bool may_follow(const struct statx *link, const char *folder) {
+    struct statx about;
+    if (statx(AT_FDCWD, folder, 0, STATX_MODE | STATX_UID, &about) != 0) return false;
+    const mode_t everybody = S_ISVTX | S_IWOTH;
+    if ((about.stx_mode & everybody) != everybody || link->stx_uid == geteuid() ||
+        link->stx_uid == about.stx_uid)
+        return true;
+    errno = EACCES;
+    return false;
+}
+
+/* Reads the link at a path in this folder: no text where there is none. */
+static bool read_link(const char *path, const char *folder, char text[PATH_MAX]) {
+    struct statx about;
+    ssize_t size = 0;
+    text[0] = '\0';
+    int link = open(path, O_PATH | O_NOFOLLOW | O_CLOEXEC);
+    if (link < 0) return errno == ENOENT;
+    bool is_well = statx(link, "", AT_EMPTY_PATH, STATX_TYPE | STATX_UID, &about) == 0;
+    if (is_well && S_ISLNK(about.stx_mode)) {
+        is_well = may_follow(&about, folder);
+        if (is_well) size = readlinkat(link, "", text, PATH_MAX - 1);
+    }
+    close_quietly(link);
+    text[size > 0 ? size : 0] = '\0';
+    return is_well && size >= 0;
+}
+
+/* Follows the links at the end of a path. A descriptor of this process is a stream. */
+static bool follow(struct target *to) {
+    char folder[PATH_MAX], text[PATH_MAX];
+    for (int links = 0; links < LINKS; links++) {
+        size_t size = size_of_folder(to->path);
+        snprintf(folder, sizeof folder, "%.*s", size == 0 ? 1 : (int)size,
+                 size == 0 ? "." : to->path);
+        if (!read_link(to->path, folder, text)) return false;
+        if (text[0] == '\0') return true;
+        if (has_descriptors(folder)) {
+            to->is_stream = true;
+            to->stream = fcntl(atoi(to->path + size), F_DUPFD_CLOEXEC, 0);
+            return to->stream >= 0;
+        }
+        if (text[0] == '/') size = 0;
+        if (size + strlen(text) >= PATH_MAX) {
+            errno = ENAMETOOLONG;
+            return false;
+        }
+        strcpy(to->path + size, text);
+    }
+    errno = ELOOP;
+    return false;
+}
+
+/* Finds out where a file of this path goes. It opens a device, a pipe or a socket, and refuses a
+ * folder. */
+static bool find_target(const char *path, struct target *to) {
+    if (strlen(path) >= PATH_MAX) {
+        errno = ENAMETOOLONG;
+        return false;
+    }
+    strcpy(to->path, path);
+    to->is_stream = false;
+    if (!follow(to)) return false;
+    if (to->is_stream) return true;
+    to->is_there = statx(AT_FDCWD, to->path, AT_SYMLINK_NOFOLLOW,
+                         STATX_TYPE | STATX_MODE | STATX_UID | STATX_GID, &to->about) == 0;
+    if (!to->is_there) return errno == ENOENT;
+    if (S_ISREG(to->about.stx_mode)) return true;
+    to->is_stream = true;
+    to->stream = open(to->path, O_WRONLY | O_NOFOLLOW | O_CLOEXEC | O_NOCTTY);
+    return to->stream >= 0;
+}
+
+/* Writes a file to a stream, and closes it. */
+static bool write_stream(int stream, const uint8_t head[HEAD], const fastbloom_filter *filter) {
+    bool is_whole = write_bytes(stream, head, HEAD) &&
+                    write_bytes(stream, filter->words, 8 * filter->num_words);
+    if (is_whole) return close(stream) == 0;
+    close_quietly(stream);
     return false;
 }
 
@@ -400,19 +495,19 @@ static uint8_t save(const struct kind *kind, const char *path, const fastbloom_f
     uint8_t head[HEAD];
     uint8_t code = write_head(kind, filter, sealed, head);
     if (code != FASTBLOOM_OK) return code;
-    struct statx about;
-    bool replaces;
-    if (!find_old(path, &about, &replaces)) return FASTBLOOM_OUTPUT;
-    const struct statx *old = replaces ? &about : NULL;
-    size_t room = strlen(path) + sizeof "..part" + DRAWN;
+    struct target to;
+    if (!find_target(path, &to)) return FASTBLOOM_OUTPUT;
+    if (to.is_stream)
+        return write_stream(to.stream, head, filter) ? FASTBLOOM_OK : FASTBLOOM_OUTPUT;
+    size_t room = strlen(to.path) + sizeof "..part" + DRAWN;
     char *part = malloc(room);
     if (part == NULL) return FASTBLOOM_MEMORY;
-    int file = open_part(path, part, room, replaces);
+    int file = open_part(to.path, part, room, to.is_there);
     bool saved = file >= 0;
     if (saved) {
-        bool is_whole = write_part(file, head, filter, path, old);
+        bool is_whole = write_part(file, head, filter, to.path, to.is_there ? &to.about : NULL);
+        saved = put_in_place(part, file, to.path, is_whole);
         close_quietly(file); /* what was flushed is safe */
-        saved = put_in_place(part, path, is_whole);
     }
     free_quietly(part);
     return saved ? FASTBLOOM_OK : FASTBLOOM_OUTPUT;

@@ -11,8 +11,8 @@ enum {
     CROWDED = 2 * ENOUGH /* items a line on average, after which each line had enough */
 };
 
-/* Parts of a whole that are left out of a sum. */
-static const double NOTHING = 1e-30, LITTLE = 1e-17;
+/* Parts of a whole that are left out of a sum, and a chance that is left out of a line. */
+static const double NOTHING = 1e-30, LITTLE = 1e-17, NO_CHANCE = 1e-250;
 
 /* How far the floats of a rate and of a share are wrong at most, as a part of it. */
 static const double OF_RATE = 1e-12;
@@ -20,6 +20,9 @@ static const long double OF_SHARE = 0x1p-50L;
 
 /* One whole. */
 static const uint64_t UNIT = (uint64_t)1 << 63;
+
+/* Of two numbers of 64 bits. */
+__extension__ typedef unsigned __int128 product;
 
 static uint8_t code_of(size_t num_words) {
     if (num_words < LINE) return FASTBLOOM_EMPTY_WORDS;
@@ -34,26 +37,31 @@ static long double power(long double base, uint32_t exponent) {
     return all;
 }
 
-/* A line, by how likely each number of its bits is set. */
+/* A line, by how likely each number of its bits is set. Numbers below the least one, and above the
+ * greatest one, have no chance. */
 typedef struct line {
     double chances[BITS + 1];
+    int least, greatest;
     uint64_t draws;
 } line;
 
 /* Draws the positions of an item. */
 static void draw_item(line *one, uint32_t num_hashes) {
     for (uint32_t i = 0; i < num_hashes && one->draws < ENOUGH; i++, one->draws++) {
-        for (int set = BITS; set > 0; set--)
-            one->chances[set] =
-                (one->chances[set] * set + one->chances[set - 1] * (BITS - set + 1)) / BITS;
-        one->chances[0] = 0;
+        if (one->greatest < BITS) one->greatest++;
+        for (int set = one->greatest; set > one->least; set--)
+            one->chances[set] = (one->chances[set] * (double)set +
+                                 one->chances[set - 1] * (double)(BITS - set + 1)) /
+                                BITS;
+        one->chances[one->least] *= (double)one->least / BITS;
+        while (one->chances[one->least] < NO_CHANCE) one->least++;
     }
 }
 
 /* How likely a look-up in the line returns true. */
 static double rate_of(const line *one, const double rates[BITS + 1]) {
     double rate = 0;
-    for (int set = 0; set <= BITS; set++) rate += one->chances[set] * rates[set];
+    for (int set = one->least; set <= one->greatest; set++) rate += one->chances[set] * rates[set];
     return rate;
 }
 
@@ -117,15 +125,16 @@ size_t fastbloom_blocked_capacity(size_t num_words, uint32_t num_hashes, uint64_
                                   uint64_t den) {
     if (code_of(num_words) != FASTBLOOM_OK || num == 0 || den == 0) return 0;
     if (num_hashes == 0) num_hashes = 1;
-    const double rate = (double)num / (double)den;
     const long double part = part_of_item(num_words, num_hashes);
+    const long double rate = (long double)num / (long double)den * (1 + OF_SHARE);
     size_t found = 0;
     for (size_t bit = (size_t)1 << 63; bit != 0; bit /= 2) {
         /* The mean of powers is above the power of the mean, which takes less time. */
         const size_t items = found + bit;
-        if (rate >= 1 || (power(share_after(part, items), num_hashes) <= rate &&
-                          mean_rate(num_words, num_hashes, items) <= rate))
-            found = items;
+        uint64_t low, high;
+        if (power(share_after(part, items), num_hashes) > rate) continue;
+        tell(mean_rate(num_words, num_hashes, items), &low, &high);
+        if ((product)high * den <= (product)UNIT * num) found = items;
     }
     return found;
 }

@@ -560,9 +560,11 @@ void fastbloom_unmap(fastbloom_filter *filter);
 
 /* Writes a file, whole or not at all, with a seal or without one. The bytes go into a new file
  * beside it, which is flushed to the disk and then takes the name, with the owner, mode and ACL of
- * the file that had it, as far as this is allowed. A link there is replaced. But a folder, a device,
- * a pipe or a socket is refused by FASTBLOOM_OUTPUT, also where a link leads to it. Last the folder
- * is flushed.
+ * the file that had it, as far as this is allowed. Last the folder is flushed.
+ *
+ * A link there stays, and the file to which it leads is replaced, or made. What leads to a device, a
+ * pipe or a descriptor of this process, as /dev/stdout, is written as a stream instead: nothing is
+ * replaced or truncated, and a file to which the descriptor is open goes on at its place.
  *
  * It returns FASTBLOOM_OK; or FASTBLOOM_EMPTY_WORDS, FASTBLOOM_TOO_MANY_WORDS, FASTBLOOM_MEMORY or
  * FASTBLOOM_OUTPUT, and then the old file is as it was. Only where the flush of the folder failed,

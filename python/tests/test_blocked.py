@@ -6,8 +6,10 @@ import ctypes
 import math
 import os
 import pickle
+import sys
 import tempfile
 import threading
+import time
 import unittest
 from fractions import Fraction
 from pathlib import Path
@@ -349,6 +351,34 @@ class Rates(unittest.TestCase):
         for rate, wanted in (("1/2", 354_891), ("1/1000", 512), ("1/1000000", 0)):
             self.assertLessEqual(abs(seen.capacity_for(rate) - wanted), 1)
             self.assertEqual(seen.load().capacity_for(rate), seen.capacity_for(rate))
+
+    def test_a_capacity_near_1_is_told_soon_and_other_threads_go_on(self):
+        seen, ticks, ended = SharedBlockedFilter.over(bytearray(64_000), 1), [0], threading.Event()
+        rate = Fraction(999_999_999_999, 10**12)
+
+        def tick():
+            while not ended.wait(0.0001):
+                ticks[0] += 1
+
+        thread = threading.Thread(target=tick)
+        interval = sys.getswitchinterval()
+        sys.setswitchinterval(60)  # so that a thread gets on only where another one lets it
+        try:
+            thread.start()
+            before, begun = ticks[0], time.process_time()
+            capacity = seen.capacity_for(rate)
+            self.assertLess(time.process_time() - begun, 1)
+            for _ in range(100):  # a busy machine may let the thread wait
+                if ticks[0] > before:
+                    break
+                seen.capacity_for(rate)
+            self.assertGreater(ticks[0], before)
+        finally:
+            sys.setswitchinterval(interval)
+            ended.set()
+            thread.join()
+        at, above = (seen.exact_expected_false_positive_rate(capacity + it)[1] for it in (0, 1))
+        self.assertTrue(at <= rate < above)
 
     def test_the_mean_rate_of_lines(self):
         """By exact fractions: over how many items a line draws, and how many of its bits these."""

@@ -9,12 +9,14 @@ import struct
 import subprocess
 import sys
 import tempfile
+import threading
 import unittest
 from pathlib import Path
 from unittest import mock
 
 import storm
 from fastbloom import BlockedFilter, Filter, Refusal, SharedBlockedFilter, SharedFilter
+from peak import peak_of
 
 COUNTING_KEY = bytes(range(16))
 BLOCKED = (BlockedFilter, SharedBlockedFilter)
@@ -399,22 +401,25 @@ class Files(unittest.TestCase):
         self.assertEqual(Filter.load(self.path), seen)
         self.assertEqual(os.listdir(self.folder.name), [self.path.name])
 
-    def test_what_is_no_regular_file_is_neither_replaced_nor_waited_for(self):
+    def test_what_is_no_regular_file_is_neither_read_nor_replaced(self):
         folder = Path(self.folder.name)
         os.mkfifo(folder / "pipe")
         os.symlink("pipe", folder / "link")
         os.symlink("/dev/null", folder / "null")
+        os.symlink("ring", folder / "ring")
         with socket.socket(socket.AF_UNIX) as bound:
             bound.bind(str(folder / "socket"))
         os.mkdir(folder / "folder")
         names = sorted(os.listdir(folder))
         kinds = [(folder / name).lstat().st_mode for name in names]
+        refused = {"folder": errno.EISDIR, "socket": errno.ENXIO, "ring": errno.ELOOP}
         for seen in (Filter(10, "1/1000"), BlockedFilter(10, "1/1000")):
-            for name in names:
-                wanted = errno.EISDIR if name == "folder" else errno.EINVAL
+            for name, wanted in refused.items():
                 with self.assertRaises(OSError) as raised:
                     seen.save(folder / name)
                 self.assertEqual(raised.exception.errno, wanted)
+            seen.save(folder / "null")
+            for name in names:
                 self.assertRaises(OSError, type(seen).load, folder / name)
                 self.assertRaises(OSError, type(seen).load, folder / name, mapped=True)
         for shared in (SharedFilter, SharedBlockedFilter):
@@ -422,6 +427,155 @@ class Files(unittest.TestCase):
                 self.assertRaises(OSError, shared.map, folder / name)
         self.assertEqual(sorted(os.listdir(folder)), names)
         self.assertEqual([(folder / name).lstat().st_mode for name in names], kinds)
+
+    def test_a_pipe_is_written_as_a_stream(self):
+        seen = Filter.from_bytes(WORKED)
+        os.mkfifo(self.path)
+        link = Path(self.folder.name) / "link"
+        os.symlink(self.path.name, link)
+        reader = os.open(self.path, os.O_RDONLY | os.O_NONBLOCK)
+        self.addCleanup(os.close, reader)
+        for path in (self.path, link):
+            seen.save(path)
+            self.assertEqual(os.read(reader, 100), WORKED)
+        self.assertTrue(stat.S_ISFIFO(self.path.stat().st_mode) and link.is_symlink())
+        # A thread of this process may read what it saves, also more than a pipe has room for.
+        large, (end, start), read = Filter(1_000_000, "1/1000"), os.pipe(), []
+        with open(end, "rb") as file:
+            thread = threading.Thread(target=lambda: read.append(file.read()))
+            thread.start()
+            large.save(f"/dev/fd/{start}")
+            os.close(start)
+            thread.join()
+        self.assertEqual(read, [large.to_bytes()])
+
+    def test_a_descriptor_goes_on_at_its_place(self):
+        seen = Filter.from_bytes(WORKED)
+        link = Path(self.folder.name) / "link"
+        with open(self.path, "w+b", buffering=0) as file:
+            number = file.fileno()
+            os.symlink(f"/dev/fd/{number}", link)
+            paths = [f"/dev/fd/{number}", f"/proc/self/fd/{number}", link]
+            for path in [*paths, f"/proc/{os.getpid()}/fd/{number}"]:
+                file.truncate(0)
+                file.seek(0)
+                file.write(b"before..after")
+                file.seek(6)
+                seen.save(path)
+                file.write(b"|")
+                self.assertEqual(self.path.read_bytes(), b"before" + WORKED + b"|")
+            self.assertTrue(link.is_symlink())
+        self.assertEqual(sorted(os.listdir(self.folder.name)), ["link", self.path.name])
+        with self.assertRaises(OSError) as raised:  # it is closed
+            seen.save(link)
+        self.assertEqual(raised.exception.errno, errno.ENOENT)
+        with open(os.devnull, "rb") as file, self.assertRaises(OSError) as raised:
+            seen.save(f"/dev/fd/{file.fileno()}")
+        self.assertEqual(raised.exception.errno, errno.EBADF)
+
+    def test_the_standard_output_is_written(self):
+        """By a link as /dev/stdout is one, which a fault might replace."""
+        code = (
+            "import sys; from fastbloom import Filter\n"
+            "sys.stdout.write('before'); sys.stdout.flush()\n"
+            "Filter.from_bytes(bytes.fromhex(sys.argv[1])).save(sys.argv[2])\n"
+            "sys.stdout.write('after')\n"
+        )
+        link = Path(self.folder.name) / "stdout"
+        os.symlink("/proc/self/fd/1", link)
+        words = [sys.executable, "-c", code, WORKED.hex(), str(link)]
+        with open(self.path, "wb") as file:
+            subprocess.run(words, stdout=file, timeout=60, check=True)
+        self.assertEqual(self.path.read_bytes(), b"before" + WORKED + b"after")
+        self.assertEqual(os.readlink(link), "/proc/self/fd/1")
+
+    def test_a_link_stays_and_what_it_leads_to_is_replaced(self):
+        seen, folder = Filter.from_bytes(WORKED), Path(self.folder.name)
+        os.mkdir(folder / "folder")
+        os.symlink("folder/first", folder / "link")
+        os.symlink("second", folder / "folder" / "first")
+        end = folder / "folder" / "second"
+        for number in range(2):
+            if number:
+                end.write_bytes(b"other")
+                end.chmod(0o604)
+            seen.save(folder / "link")
+            self.assertTrue((folder / "link").is_symlink() and not end.is_symlink())
+            self.assertTrue((folder / "folder" / "first").is_symlink())
+            self.assertEqual(end.read_bytes(), WORKED)
+        self.assertEqual(stat.S_IMODE(end.stat().st_mode), 0o604)
+        self.assertEqual(sorted(os.listdir(folder / "folder")), ["first", "second"])
+
+    def saved_by_another(self, path):
+        """Saves a file as another user, where this one may, and returns the number of the error."""
+        child = os.fork()
+        if child == 0:
+            try:
+                if os.geteuid() == 0:
+                    os.setresgid(1235, 1235, 1235)
+                    os.setresuid(1235, 1235, 1235)
+                Filter.from_bytes(WORKED).save(path)
+            except OSError as error:
+                os._exit(error.errno)
+            os._exit(0)
+        return os.waitstatus_to_exitcode(os.waitpid(child, 0)[1])
+
+    def test_a_folder_that_may_not_be_read(self):
+        folder = Path(self.folder.name)
+        folder.chmod(0o1733 if os.geteuid() == 0 else 0o300)
+        try:
+            self.assertEqual(self.saved_by_another(self.path), 0)
+        finally:
+            folder.chmod(0o700)
+        self.assertEqual(os.listdir(folder), [self.path.name])
+        self.assertEqual(self.path.read_bytes(), WORKED)
+
+    @unittest.skipUnless(os.geteuid() == 0, "only root has files of other users")
+    def test_a_link_of_another_user_in_a_folder_of_all_is_not_followed(self):
+        folder, link = Path(self.folder.name), Path(self.folder.name) / "link"
+        folder.chmod(0o1777)
+        os.symlink(self.path.name, link)
+        os.chown(folder, 1236, 1236)
+        for owner, wanted in ((1237, errno.EACCES), (1236, 0), (1235, 0), (0, errno.EACCES)):
+            os.lchown(link, owner, owner)
+            self.assertEqual(self.saved_by_another(link), wanted)
+            self.assertEqual(self.path.exists(), wanted == 0)
+            if not wanted:
+                self.path.unlink()
+
+    def test_a_file_is_written_with_no_copy_of_its_words(self):
+        for seen in (Filter(1_000_000, "1/1000"), BlockedFilter(1_000_000, "1/1000")):
+            seen.add("crab")
+            size = 8 * seen.num_words
+            for sealed in (False, True):
+                self.assertLess(peak_of(lambda: seen.save(self.path, sealed)), size // 2)
+                self.assertLess(peak_of(lambda: seen.to_bytes(sealed)), size * 3 // 2)
+                self.assertEqual(self.path.read_bytes(), seen.to_bytes(sealed))
+            self.assertEqual(type(seen).load(self.path), seen)
+
+    def test_a_file_that_is_saved_while_threads_add_has_a_right_seal(self):
+        seen = Filter(1_000_000, "1/1000")
+        seen.update(f"item{number}" for number in range(1000))
+        going = True
+
+        def add():
+            number = 0
+            while going:
+                seen.add(f"more{number}")
+                number += 1
+
+        threads = [threading.Thread(target=add) for _ in range(2)]
+        for thread in threads:
+            thread.start()
+        try:
+            for _ in range(20):
+                seen.save(self.path)
+                read = Filter.load(self.path)
+                self.assertTrue(all(f"item{number}" in read for number in range(1000)))
+        finally:
+            going = False
+            for thread in threads:
+                thread.join()
 
     def test_a_signal_may_save_the_file_that_is_being_saved(self):
         first, second = Filter.from_bytes(WORKED), Filter.from_bytes(WORKED)

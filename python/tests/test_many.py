@@ -24,11 +24,17 @@ from fastbloom import (
 )
 from fastbloom import _library as library
 from fastbloom._many import words_of
+from peak import peak_of
 
 try:
     import numpy
 except ImportError:
     numpy = None
+
+try:
+    import pandas
+except ImportError:
+    pandas = None
 
 
 def small():
@@ -107,6 +113,30 @@ class Masks(unittest.TestCase):
         mask = Mask(bytearray(b"\x05"), 3)
         self.assertRaises(ValueError, mask.__array__, copy=False)
         self.assertEqual(mask.__array__(copy=True).tolist(), [True, False, True])
+
+    @unittest.skipUnless(numpy, "numpy isn't there")
+    def test_a_mask_is_no_list_of_numbers(self):
+        mask = Mask(bytearray(b"\x06"), 4)
+        values = numpy.array([10, 20, 30, 40])
+        for kind in (int, "u1", float, complex):
+            self.assertRaises(TypeError, numpy.asarray, mask, kind)
+        self.assertRaises(TypeError, values.take, mask)
+        self.assertEqual(values[mask].tolist(), [20, 30])
+        for kind in (bool, object):
+            self.assertEqual(numpy.asarray(mask, kind).tolist(), [False, True, True, False])
+
+    @unittest.skipUnless(pandas, "pandas isn't there")
+    def test_a_mask_chooses_rows_or_is_refused(self):
+        mask = Mask(bytearray(b"\x06"), 4)
+        row = pandas.Series([10, 20, 30, 40])
+        table = row.to_frame("value")
+        for choose in (row.iloc.__getitem__, table.iloc.__getitem__, row.take):
+            self.assertRaises(TypeError, choose, mask)
+        for choose in (row, row.loc, row.iloc):
+            self.assertEqual(choose[numpy.asarray(mask)].tolist(), [20, 30])
+        for choose in (table, table.loc, table.iloc):
+            self.assertEqual(choose[numpy.asarray(mask)].value.tolist(), [20, 30])
+        self.assertEqual(table.assign(seen=mask).seen.tolist(), mask)
 
 
 class Hashes(unittest.TestCase):
@@ -192,6 +222,10 @@ class Hashes(unittest.TestCase):
         for pointer in pointers:
             self.assertTrue(pointer is not None and ctypes.addressof(pointer))
 
+    def frozen(self, array):
+        array.flags.writeable = False
+        return array
+
     def test_other_buffers_are_refused(self):
         others = [
             array.array("q", [1]),
@@ -208,6 +242,8 @@ class Hashes(unittest.TestCase):
                 numpy.array([1]),
                 numpy.array([1], dtype=">u8"),
                 numpy.zeros((4, 4), dtype="u8")[:, ::2],
+                numpy.zeros((2, 3), dtype="u8", order="F"),
+                self.frozen(numpy.zeros((2, 3), dtype="u8", order="F")),
                 numpy.uint64(5),
                 numpy.float64(1),
             ]
@@ -215,7 +251,7 @@ class Hashes(unittest.TestCase):
             seen = make()
             for other in others:
                 for call in (seen.add_hashes, seen.contains_hashes, seen.add_hashes_tell_new):
-                    self.assertRaises(TypeError, call, other)
+                    self.assertRaisesRegex(TypeError, "^hashes |bytes-like", call, other)
             self.assertEqual(seen.count_ones(), 0)
 
     @unittest.skipUnless(numpy, "there is no numpy")
@@ -296,6 +332,24 @@ class Items(unittest.TestCase):
             self.assertRaises(ValueError, seen.update, ["whale"], odd)
             self.assertEqual(seen.count_ones(), before)
 
+    def test_what_is_no_many_items_is_told_another_call(self):
+        seen = small()
+        many = [memoryview(array.array("d", [1.5])), array.array("Q", [1]), array.array("i", [1])]
+        if numpy:
+            many += [numpy.array([1, 2], dtype="u8"), numpy.array([1.5]), numpy.uint64(5)]
+        for numbers in many:
+            for call, other in (
+                (seen.update, "add_hashes"),
+                (seen.contains_many, "contains_hashes"),
+            ):
+                self.assertRaisesRegex(TypeError, f"numbers, .* `{other}` takes", call, numbers)
+        released = memoryview(b"crab")
+        released.release()
+        for one in ("crab", b"crab", bytearray(b"crab"), memoryview(b"crab"), released):
+            self.assertRaisesRegex(TypeError, "one item, which `add` takes", seen.update, one)
+            self.assertRaisesRegex(TypeError, "one item, which `in` takes", seen.contains_many, one)
+        self.assertEqual(seen.count_ones(), 0)
+
 
 class Sets(unittest.TestCase):
     def setUp(self):
@@ -349,6 +403,19 @@ class Sets(unittest.TestCase):
             self.few <= {"crab"}
         with self.assertRaises(TypeError):
             self.few > None
+
+    def test_subsets_are_told_with_no_copy(self):
+        for cls in (Filter, BlockedFilter, SharedFilter, SharedBlockedFilter):
+            few, more = cls(1_000_000, "1/1000"), cls(1_000_000, "1/1000")
+            few.update(["crab", "eel"])
+            more.update(["crab", "eel"])
+            last = 2**64 - 1  # of which a bit is in the last words
+            more.add_hash(last)
+            for less, wanted in ((few, True), (more, False)):
+                answers = []
+                peak = peak_of(lambda: answers.append(less <= few and few <= more))
+                self.assertEqual(answers, [wanted])
+                self.assertLess(peak, 8 * few.num_words // 2)
 
     def test_about_how_many(self):
         self.assertEqual(small().approx_items, 0)

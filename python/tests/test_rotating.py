@@ -1,11 +1,19 @@
-"""What a rotating filter refuses, its rates, and threads that share it."""
+"""What a rotating filter refuses, its rates, its copies, and threads that share it."""
 
+import copy
+import pickle
 import sys
 import threading
 import unittest
 from fractions import Fraction
 
 from fastbloom import Refusal, RotatingFilter
+
+
+class Named(RotatingFilter):
+    """A subclass with an attribute in a slot, and others."""
+
+    __slots__ = ("name", "__dict__")
 
 
 class Rotating(unittest.TestCase):
@@ -43,6 +51,32 @@ class Rotating(unittest.TestCase):
         with self.assertRaises(TypeError):
             seen.__init__(1, "1/2")
         self.assertEqual((seen.taken, seen.older.count_ones()), (0, 0))
+
+    def test_copies_go_on_by_themselves(self):
+        """Each keeps the last items that it was told itself."""
+        ways = [RotatingFilter.copy, copy.copy, copy.deepcopy]
+        ways += [lambda it, n=number: pickle.loads(pickle.dumps(it, n)) for number in range(6)]
+        for way in ways:
+            seen = Named(3, "1/1000000000", key=bytes(range(16)))
+            seen.name, seen.more = ["fish"], "shell"
+            for name in ("crab", "eel", "prawn", "whale"):
+                seen.add(name)
+            other = way(seen)
+            self.assertIs(type(other), Named)
+            self.assertEqual((other.name, other.more), (["fish"], "shell"))
+            self.assertEqual(other.name is seen.name, way in ways[:2])
+            self.assertEqual((other.older, other.newer), (seen.older, seen.newer))
+            self.assertEqual((other.taken, other.newer.key), (1, bytes(range(16))))
+            for number in range(4):
+                other.add(str(number))
+            self.assertEqual((seen.taken, other.taken), (1, 2))
+            self.assertEqual(
+                [name in seen for name in ("crab", "whale", "0", "3")], 2 * [True] + 2 * [False]
+            )
+            self.assertEqual([name in other for name in ("crab", "0", "3")], [False, True, True])
+            self.assertFalse(seen.add("shrimp"))
+            self.assertNotIn("shrimp", other)
+            self.assertTrue(all(name in seen for name in ("crab", "prawn", "whale", "shrimp")))
 
     def test_rates(self):
         # Filters of 64 bits and one hash. After the turn the older one has 36 of them, and then

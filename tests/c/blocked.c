@@ -344,18 +344,26 @@ static void try_mean_rates(void) {
     wants("no bounds", 1, low == 0 && high == UINT64_C(1) << 63);
 }
 
-/* How many items filters take, by the same fractions. */
+/* How many items filters take, by the same fractions: the bound above them isn't above the rate. At
+ * one item and one position the mean is the rate itself, so that the bound is above it. */
 static void try_capacities(void) {
     static const struct {
         size_t lines;
         uint32_t hashes;
         uint64_t num, den;
         size_t items;
-    } rows[] = {{1, 1, 1, 2, 354},      {1, 0, 1, 2, 354},
-                {1, 8, 1, 1000, 34},    {2, 16, 1, 1000000000, 16},
-                {31, 9, 1, 1000, 1023}, {30917, 9, 1, 1000, 1018271},
-                {1, 8, 0, 1, 0},        {1, 8, 1, 0, 0},
-                {1, 8, 1, 1, SIZE_MAX}};
+    } rows[] = {{1, 1, 1, 2, 354},
+                {1, 0, 1, 2, 354},
+                {1, 8, 1, 1000, 34},
+                {2, 16, 1, 1000000000, 16},
+                {31, 9, 1, 1000, 1023},
+                {30917, 9, 1, 1000, 1018271},
+                {1, 8, 0, 1, 0},
+                {1, 8, 1, 0, 0},
+                {1, 8, 1, 1, SIZE_MAX},
+                {1, 1, 1, 512, 0},
+                {1, 8, 999999, 1000000, 1015},
+                {1000, 8, 999999, 1000000, 1023803}};
     for (size_t i = 0; i < sizeof rows / sizeof *rows; i++)
         wants("a capacity", rows[i].items,
               fastbloom_blocked_capacity(8 * rows[i].lines + i % 8, rows[i].hashes, rows[i].num,

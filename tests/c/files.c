@@ -4,7 +4,8 @@
  * Files of both kinds of filters are written, read and mapped, and those with faults are refused:
  * one that is truncated at each length or goes on, one of the other kind, a folder, a pipe, a
  * socket, a device, no file, no room, no right to read or write, and limits. The reasons are those
- * of docs/FILE.md. A new file has the rights of the old one, and no other user gets more.
+ * of docs/FILE.md. A new file has the rights of the old one, and no other user gets more. A link
+ * stays, and a device, a pipe or a descriptor is written as a stream.
  */
 #define _GNU_SOURCE
 #include "fastbloom.h"
@@ -79,6 +80,12 @@ static unsigned mode_of(const char *path) {
     struct stat about;
     CHECK(lstat(path, &about) == 0);
     return about.st_mode & 07777;
+}
+
+static mode_t kind_of(const char *path) {
+    struct stat about;
+    CHECK(lstat(path, &about) == 0);
+    return about.st_mode & S_IFMT;
 }
 
 static bool is_this(const fastbloom_filter *read) {
@@ -281,47 +288,148 @@ static void no_files(void) {
     CHECK(rmdir("folder") == 0 && unlink("pipe") == 0);
 }
 
-/* What no file replaces: a pipe, a socket, and links to a device and to themselves. */
+/* What a file can't go to stays as it was: a socket that nobody hears, and a link to itself. */
 static void kept_paths(void) {
     struct sockaddr_un name = {.sun_family = AF_UNIX, .sun_path = "socket"};
     int connection = socket(AF_UNIX, SOCK_STREAM, 0);
     CHECK(connection >= 0 && bind(connection, (struct sockaddr *)&name, sizeof name) == 0);
-    CHECK(close(connection) == 0 && mkfifo("pipe", 0600) == 0);
-    CHECK(symlink("/dev/null", "null") == 0 && symlink("ring", "ring") == 0);
+    CHECK(close(connection) == 0 && symlink("ring", "ring") == 0);
     static const struct {
         const char *path;
         int why;
         mode_t kind;
-    } rows[] = {{"pipe", EINVAL, S_IFIFO},
-                {"socket", EINVAL, S_IFSOCK},
-                {"null", EINVAL, S_IFLNK},
-                {"ring", ELOOP, S_IFLNK}};
+    } rows[] = {{"socket", ENXIO, S_IFSOCK}, {"ring", ELOOP, S_IFLNK}};
     for (size_t i = 0; i < sizeof rows / sizeof *rows; i++) {
-        struct stat about;
         CHECK(kind->save(rows[i].path, &filter, true) == FASTBLOOM_OUTPUT);
-        CHECK(errno == rows[i].why && lstat(rows[i].path, &about) == 0);
-        CHECK((about.st_mode & S_IFMT) == rows[i].kind && unlink(rows[i].path) == 0);
+        CHECK(errno == rows[i].why && kind_of(rows[i].path) == rows[i].kind);
+        CHECK(unlink(rows[i].path) == 0);
     }
 }
 
-/* A new file has the mode that the process gives, and a later one that of the file before it. A
- * link at the path is replaced, and what it leads to stays. */
+/* What is read from a descriptor is the file of the filter. */
+static void receives(int from) {
+    uint8_t bytes[HEAD + 8 * MOST], wanted[sizeof bytes];
+    CHECK(kind->save("wanted", &filter, true) == FASTBLOOM_OK);
+    size_t size = bytes_of("wanted", wanted, sizeof wanted), there = 0;
+    while (there < size) {
+        ssize_t got = read(from, bytes + there, size - there);
+        CHECK(got > 0);
+        there += (size_t)got;
+    }
+    CHECK(there == size && memcmp(bytes, wanted, size) == 0 && unlink("wanted") == 0);
+}
+
+/* A device, a pipe and a descriptor of the process are written as they are, also where links lead to
+ * them. A regular file to which a descriptor is open goes on at its place. */
+static void streams(void) {
+    static const char *const forms[] = {"/dev/fd/%d", "/proc/self/fd/%d", "/proc/%d/fd/%d"};
+    char path[64], last;
+    int ends[2];
+    CHECK(mkfifo("pipe", 0600) == 0 && symlink("pipe", "to_pipe") == 0);
+    int pipe_end = open("pipe", O_RDONLY | O_NONBLOCK);
+    CHECK(pipe_end >= 0 && kind->save("to_pipe", &filter, true) == FASTBLOOM_OK);
+    receives(pipe_end);
+    CHECK(close(pipe_end) == 0 && kind_of("pipe") == S_IFIFO && kind_of("to_pipe") == S_IFLNK);
+    CHECK(unlink("pipe") == 0 && unlink("to_pipe") == 0);
+    CHECK(symlink("/dev/null", "null") == 0);
+    CHECK(kind->save("null", &filter, true) == FASTBLOOM_OK);
+    CHECK(kind_of("null") == S_IFLNK && kind_of("/dev/null") == S_IFCHR && unlink("null") == 0);
+    CHECK(socketpair(AF_UNIX, SOCK_STREAM, 0, ends) == 0);
+    for (size_t i = 0; i < 4; i++) {
+        int file = open("kept", O_RDWR | O_CREAT | O_TRUNC, 0600);
+        CHECK(file >= 0 && write(file, "before..after", 13) == 13 && lseek(file, 6, SEEK_SET) == 6);
+        int to = i == 3 ? ends[1] : file;
+        snprintf(path, sizeof path, forms[i % 3], i == 2 ? (int)getpid() : to, to);
+        if (i == 1) {
+            CHECK(symlink(path, "link") == 0);
+            strcpy(path, "link");
+        }
+        CHECK(kind->save(path, &filter, true) == FASTBLOOM_OK);
+        if (i < 3) {
+            CHECK(write(file, "|", 1) == 1 && lseek(file, 0, SEEK_SET) == 0);
+            CHECK(read(file, path, 6) == 6 && memcmp(path, "before", 6) == 0);
+            receives(file);
+            CHECK(read(file, &last, 1) == 1 && last == '|' && read(file, &last, 1) == 0);
+        } else {
+            receives(ends[0]);
+        }
+        CHECK(close(file) == 0 && kind_of("kept") == S_IFREG);
+    }
+    CHECK(kind_of("link") == S_IFLNK && unlink("link") == 0 && unlink("kept") == 0);
+    CHECK(close(ends[0]) == 0 && close(ends[1]) == 0);
+    /* One that isn't open, and one that is only read. */
+    snprintf(path, sizeof path, "/dev/fd/%d", ends[0]);
+    CHECK(kind->save(path, &filter, true) == FASTBLOOM_OUTPUT && errno == ENOENT);
+    CHECK(open("/dev/null", O_RDONLY) == ends[0]);
+    CHECK(kind->save(path, &filter, true) == FASTBLOOM_OUTPUT && errno == EBADF);
+    CHECK(close(ends[0]) == 0);
+}
+
+/* A new file has the mode that the process gives, and a later one that of the file before it. */
 static void rights(void) {
-    fastbloom_filter read;
     umask(027);
     CHECK(kind->save("made", &filter, true) == FASTBLOOM_OK && mode_of("made") == 0640);
     CHECK(chmod("made", 0604) == 0);
     CHECK(kind->save("made", &filter, false) == FASTBLOOM_OK && mode_of("made") == 0604);
     umask(022);
-    put("other", (const uint8_t *)"other", 5);
-    CHECK(symlink("other", "link") == 0 && chmod("other", 0600) == 0);
-    CHECK(kind->save("link", &filter, true) == FASTBLOOM_OK && mode_of("link") == 0600);
-    uint8_t bytes[8];
-    CHECK(bytes_of("other", bytes, sizeof bytes) == 5);
-    CHECK(unlink("other") == 0 && symlink("link", "to") == 0);
-    CHECK(kind->load("to", NULL, &read) == FASTBLOOM_OK && is_this(&read));
-    fastbloom_unload(&read);
-    CHECK(unlink("link") == 0 && unlink("to") == 0 && unlink("made") == 0);
+    CHECK(unlink("made") == 0);
+}
+
+/* A link stays, and the file to which it leads is replaced, or made where there is none. */
+static void links(void) {
+    fastbloom_filter read;
+    CHECK(mkdir("folder", 0755) == 0 && symlink("folder/first", "link") == 0);
+    CHECK(symlink("second", "folder/first") == 0);
+    for (int there = 0; there < 2; there++) {
+        if (there) {
+            put("folder/second", (const uint8_t *)"other", 5);
+            CHECK(chmod("folder/second", 0604) == 0);
+        }
+        CHECK(kind->save("link", &filter, true) == FASTBLOOM_OK);
+        CHECK(kind_of("link") == S_IFLNK && kind_of("folder/first") == S_IFLNK);
+        CHECK(kind_of("folder/second") == S_IFREG);
+        CHECK(mode_of("folder/second") == (there ? 0604 : 0644));
+        CHECK(kind->load("folder/second", NULL, &read) == FASTBLOOM_OK && is_this(&read));
+        fastbloom_unload(&read);
+    }
+    CHECK(unlink("folder/second") == 0 && unlink("folder/first") == 0);
+    CHECK(unlink("link") == 0 && rmdir("folder") == 0);
+}
+
+/* Saves a file as another user, in a process of its own: 0, the number of the error, or -1 where
+ * this process can't become another user. */
+static int saved_by_another(const char *path) {
+    pid_t child = fork();
+    CHECK(child >= 0);
+    if (child == 0) {
+        if (setresgid(1235, 1235, 1235) != 0 || setresuid(1235, 1235, 1235) != 0) _exit(255);
+        _exit(kind->save(path, &filter, true) == FASTBLOOM_OK ? 0 : errno);
+    }
+    int status;
+    CHECK(waitpid(child, &status, 0) == child && WIFEXITED(status));
+    return WEXITSTATUS(status) == 255 ? -1 : WEXITSTATUS(status);
+}
+
+/* In a folder that may be written and not be read a file is saved. In one where everybody may make
+ * files, the link of another user isn't followed. */
+static void odd_folders(void) {
+    fastbloom_filter read;
+    if (geteuid() != 0) return;
+    CHECK(mkdir("folder", 0700) == 0 && chmod("folder", 0733) == 0);
+    int why = saved_by_another("folder/made");
+    CHECK(why <= 0 && chmod("folder", 01777) == 0);
+    if (why == 0) {
+        CHECK(kind->load("folder/made", NULL, &read) == FASTBLOOM_OK && is_this(&read));
+        fastbloom_unload(&read);
+        CHECK(symlink("made", "folder/link") == 0);
+        CHECK(lchown("folder/link", 1235, 1235) == 0 && saved_by_another("folder/link") == 0);
+        CHECK(lchown("folder", 1236, 1236) == 0 && lchown("folder/link", 1237, 1237) == 0);
+        CHECK(saved_by_another("folder/link") == EACCES);
+        CHECK(kind->save("folder/link", &filter, true) == FASTBLOOM_OUTPUT && errno == EACCES);
+        CHECK(lchown("folder/link", 1236, 1236) == 0 && saved_by_another("folder/link") == 0);
+        CHECK(unlink("folder/link") == 0 && unlink("folder/made") == 0);
+    }
+    CHECK(rmdir("folder") == 0);
 }
 
 /* A list of access rights as the system keeps it, in 44 bytes. The owner reads and writes, the user
@@ -378,16 +486,9 @@ static void other_group(void) {
             if (setxattr("folder/made", "system.posix_acl_access", list, sizeof list, 0) != 0)
                 break;
         }
-        pid_t child = fork();
-        CHECK(child >= 0);
-        if (child == 0) {
-            if (setresgid(1235, 1235, 1235) != 0 || setresuid(1235, 1235, 1235) != 0) _exit(2);
-            _exit(kind->save("folder/made", &filter, true) == FASTBLOOM_OK ? 0 : 1);
-        }
-        int status;
-        CHECK(waitpid(child, &status, 0) == child);
-        if (WIFEXITED(status) && WEXITSTATUS(status) == 2) break;
-        CHECK(status == 0 && mode_of("folder/made") == (i == 4 ? 0600 : modes[i][1]));
+        int why = saved_by_another("folder/made");
+        if (why < 0) break;
+        CHECK(why == 0 && mode_of("folder/made") == (i == 4 ? 0600 : modes[i][1]));
         struct stat about;
         CHECK(stat("folder/made", &about) == 0 && about.st_gid == 1235);
     }
@@ -501,7 +602,10 @@ int main(int argc, char **argv) {
         CHECK(unlink("kept") == 0);
         no_files();
         kept_paths();
+        streams();
         rights();
+        links();
+        odd_folders();
         lists();
         other_group();
         long_names();

@@ -6,7 +6,17 @@ import ctypes
 import math
 import typing
 from fractions import Fraction
-from typing import TYPE_CHECKING, Any, Callable, ClassVar, Generic, Iterable, TypeVar, Union
+from typing import (
+    TYPE_CHECKING,
+    Any,
+    Callable,
+    ClassVar,
+    Generic,
+    Iterable,
+    Iterator,
+    TypeVar,
+    Union,
+)
 
 from . import _library as library
 from ._checks import Estimate, check, check_told, hash_value, number_of_items, rate_parts
@@ -20,6 +30,8 @@ if TYPE_CHECKING:
     from typing_extensions import Self as Self
 else:  # for typing.get_type_hints, also before Python 3.11
     Self = getattr(typing, "Self", TypeVar("Self"))
+
+PART = 1 << 16  # bytes of words that are copied at once
 
 Kind = TypeVar("Kind", bound="Base[Any]")  # the class of the filters that one takes in
 
@@ -38,6 +50,11 @@ def estimate_of(call: Callable[..., bool]) -> Estimate:
     return Estimate(low.value, None if high.value == 2**64 - 1 else high.value)
 
 
+def words_in(view: memoryview) -> tuple[int, int]:
+    """The address of the words, and how many they are."""
+    return ctypes.addressof(ctypes.c_char.from_buffer(view)), view.nbytes // 8
+
+
 class Base(Generic[Kind]):
     """What all kinds of filters have. `Filter` says what an item is."""
 
@@ -49,6 +66,7 @@ class Base(Generic[Kind]):
     _new_memory: ClassVar[Any]  # memory of so many words, all of them clear
     _words_in: ClassVar[Any]  # the words in a view, as the calls take them
     _copy: Callable[[], Any]  # a plain filter with its words, as they are at one instant, or loaded
+    _parts: Callable[[], Iterator[memoryview]]  # copies of its words, part by part
     _now: Callable[[], Any]  # itself, or a plain filter with its words as they are loaded
     _view: memoryview
     _words: tuple[Any, ...]
@@ -361,10 +379,12 @@ class Base(Generic[Kind]):
         of this kind TypeError.
         """
         self._check_kind(other)
-        # Other threads may add meanwhile: each is what it was at one instant.
-        before, united = other._copy(), self._copy()
-        united |= before
-        return bool(united == before)
+        # Other threads may add meanwhile: of each part the other's words are read last.
+        for part, wanted in zip(self._parts(), other._parts()):
+            one, two = words_in(part), words_in(wanted)
+            if not (library.PLAIN.union(*one, *two) and library.equal(*one, *two)):
+                return False
+        return True
 
     def issuperset(self, other: Kind) -> bool:
         """Whether it has all set bits of the other. It raises as `issubset`."""

@@ -32,7 +32,8 @@ class Filter(Words["Filter"], Plain["Filter"]):
     Items are `str`, which count as their UTF-8 bytes, and bytes-like objects. Everything else
     raises TypeError, and a `str` that has no UTF-8 raises UnicodeEncodeError. Threads may call one
     filter at once, and none loses what another one adds. Calls come one after the other, but
-    `update`, `contains_many`, `|` and `&` are several, and other calls may come between.
+    `update`, `contains_many`, `|`, `&`, `<=` and its kin, and `save` are several, and other calls
+    may come between.
     """
 
     __slots__ = ()

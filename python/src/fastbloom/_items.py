@@ -23,6 +23,10 @@ Rate = Union[str, float, Fraction, Decimal]
 # letters is a complex number.
 _OF_ITEMS = re.compile(r"\d[sw]|O")
 _OF_POINTERS = re.compile("[OPXz&]|Z(?![fdg])")
+_OF_BYTES = ("B", "b", "c")
+
+# The calls that take hashes instead of items, by those that take one item.
+_FOR_HASHES = {"add": "add_hashes", "in": "contains_hashes"}
 
 
 def bytes_of(item: Item) -> bytes:
@@ -58,8 +62,12 @@ def _has_data(value: Any, view: memoryview) -> bool:
 
 def check_many(items: Any, call: str) -> None:
     """Raises TypeError for one item where many are wanted, and names the call that takes it."""
-    if is_one(items):
-        raise TypeError(f"this is one item, which `{call}` takes")
+    if not is_one(items):
+        return
+    if not isinstance(items, str) and _has_numbers(items):
+        call = _FOR_HASHES[call]
+        raise TypeError(f"this has numbers, and no items; `{call}` takes an array of hashes")
+    raise TypeError(f"this is one item, which `{call}` takes")
 
 
 def is_one(items: Any) -> bool:
@@ -70,4 +78,13 @@ def is_one(items: Any) -> bool:
         with memoryview(items) as view:
             return view.ndim < 2 and not _OF_ITEMS.search(view.format)
     except (TypeError, ValueError, BufferError):
+        return False
+
+
+def _has_numbers(value: Buffer) -> bool:
+    """Whether a buffer has a number, or numbers that aren't bytes."""
+    try:
+        with memoryview(value) as view:
+            return view.ndim == 0 or view.format.lstrip("@=<>!") not in _OF_BYTES
+    except ValueError:  # it was released
         return False

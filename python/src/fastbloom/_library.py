@@ -104,11 +104,15 @@ class Calls:
             f"{prefix}count_ones", _SIZE, *words, library=library
         )
         self.estimate = of_kind("estimate", _TO_SIZE, _TO_SIZE)
+        # These touch no filter's words, so other threads may go on meanwhile.
         self.rate_bounds: Callable[..., int] = _call(
-            f"{kind}rate_bounds", _CODE, _SIZE, _HASHES, _SIZE, _MANY, _MANY
+            f"{kind}rate_bounds", _CODE, _SIZE, _HASHES, _SIZE, _MANY, _MANY, library=_LETTING_GO
         )
         self.capacity: Callable[..., int] = _call(
-            f"{kind}capacity", _SIZE, _SIZE, _HASHES, _HASH, _HASH
+            f"{kind}capacity", _SIZE, _SIZE, _HASHES, _HASH, _HASH, library=_LETTING_GO
+        )
+        self.seal: Callable[..., int] = _call(
+            f"{kind}seal", _HASH, _WORDS, _SIZE, _HASHES, _BYTES, library=_LETTING_GO
         )
         # Of two filters that aren't shared.
         two = _BOOL, _WORDS, _SIZE, _WORDS, _SIZE, _HASHES
@@ -124,10 +128,6 @@ class Calls:
         self.head_read: Callable[..., int] = _call(
             f"{kind}head_read", _CODE, _BYTES, _TO_SIZE, _TO_HASHES, _BYTES, _MANY
         )
-        # This touches no filter's words, so other threads may go on meanwhile.
-        self.seal: Callable[..., int] = _call(
-            f"{kind}seal", _HASH, _WORDS, _SIZE, _HASHES, _BYTES, library=_LETTING_GO
-        )
 
 
 PLAIN, SHARED = Calls("", False), Calls("", True)
@@ -138,6 +138,12 @@ hash_of: Callable[..., int] = _call("hash", _HASH, _BYTES, _BYTES, _SIZE)
 hash_items: Callable[..., bool] = _call(
     "hash_items", _BOOL, _BYTES, _BYTES, _SIZE, _WORDS, _SIZE, _MANY, _SIZE, library=_LETTING_GO
 )
+# The hash of pieces of bytes, of which eight words are kept.
+hasher_init: Callable[..., None] = _call("hasher_init", None, _MANY, _BYTES)
+hasher_update: Callable[..., None] = _call(
+    "hasher_update", None, _MANY, _WORDS, _SIZE, library=_LETTING_GO
+)
+hasher_finish: Callable[..., int] = _call("hasher_finish", _HASH, _MANY)
 equal: Callable[..., bool] = _call("equal", _BOOL, _WORDS, _SIZE, _WORDS, _SIZE)
 shared_take: Callable[..., bool] = _call(
     "shared_take", _BOOL, SharedWords, _WORDS, _SIZE, library=_LETTING_GO
@@ -146,5 +152,5 @@ shared_load: Callable[..., bool] = _call(
     "shared_load", _BOOL, SharedWords, _WORDS, _SIZE, library=_LETTING_GO
 )
 expected_rate: Callable[..., int] = _call(
-    "expected_rate", _CODE, _SIZE, _HASHES, _SIZE, _MANY, _MANY
+    "expected_rate", _CODE, _SIZE, _HASHES, _SIZE, _MANY, _MANY, library=_LETTING_GO
 )

@@ -75,7 +75,7 @@ def words_of(hashes: Buffer) -> Hashes:
             or view.format not in ("Q", "L", "<Q", "<L", "=Q", "=L")
         ):
             raise TypeError("hashes are a buffer of unsigned words of 64 bits")
-        if not view.contiguous:
+        if not view.c_contiguous:
             raise TypeError("hashes lie one behind the other")
         count = view.nbytes // 8
         words = ctypes.c_uint64 * count

@@ -15,7 +15,8 @@ class Mask(Sequence[bool]):
     """A sequence of truth values that is kept as bits, eight in a byte.
 
     It equals a list or tuple of the same values, and never changes. `numpy.asarray(mask)` is an
-    array of booleans, and so may stand as an index of one.
+    array of booleans, and so may stand as an index of one. An array of numbers isn't made of it, so
+    what takes places of rows, as `iloc` of pandas, raises TypeError.
     """
 
     __slots__ = ("_bits", "_count")
@@ -84,12 +85,16 @@ class Mask(Sequence[bool]):
     __hash__ = None  # type: ignore[assignment]
 
     def __array__(self, dtype: Any = None, copy: Any = None) -> Any:
-        """The values as an array of numpy. It is a copy always: ValueError where none is wanted."""
+        """The values as an array of numpy. It is a copy always: ValueError where none is wanted.
+
+        Numbers that are wanted raise TypeError: they might be taken for places.
+        """
         import numpy
 
         if copy is False:
             raise ValueError("an array of these values is a copy")
-
+        if dtype is not None and numpy.dtype(dtype).kind not in "bO":
+            raise TypeError("a mask has no numbers: numpy.asarray(mask) has its truth values")
         bits = numpy.frombuffer(self.bits, dtype="u1")
         values = numpy.unpackbits(bits, count=self._count, bitorder="little").view(bool)
         return values if dtype is None else values.astype(dtype)

@@ -4,17 +4,20 @@ from __future__ import annotations
 
 import copy
 import ctypes
+import io
 import pickle
-from typing import Any, Iterable, TypeVar, Union
+from typing import Any, BinaryIO, Iterable, Iterator, TypeVar, Union
 
 from . import _library as library
-from ._base import Base, Kind, Self
+from ._base import PART, Base, Kind, Self, words_in
 from ._checks import CUT, HEAD, SEAL, Limit, Refusal, check, check_file, number_of_hashes
+from ._copies import add_attributes, attributes_of, state_of
 from ._files import Path, map_file, open_regular, size_of, write_file
 from ._items import Buffer, Item, plain_bytes
 from ._locks import alone, new_lock
 
 _LINE = 64  # bytes; a line of the cache has as many
+_SEALED, _LAYOUT = 40, slice(48, 56)  # what of a head is in the seal
 _Plain = TypeVar("_Plain", bound="Plain[Any]")
 
 
@@ -33,33 +36,6 @@ def _restored_words(cls: type[_Plain], num_hashes: int, key: bytes, words: Buffe
     return cls._of(view, number_of_hashes(num_hashes), key)
 
 
-def _attributes_of(made: object) -> tuple[dict[str, Any], dict[str, Any]]:
-    """What a subclass adds: its attributes, and those of them that have slots."""
-    slots = {}
-    for cls in type(made).__mro__:
-        names = () if cls is Base else vars(cls).get("__slots__", ())
-        for name in (names,) if isinstance(names, str) else names:
-            if name.startswith("__") and not name.endswith("__"):
-                name = f"_{cls.__name__.lstrip('_')}{name}"  # how Python keeps a private name
-            if name not in ("__dict__", "__weakref__") and hasattr(made, name):
-                slots[name] = getattr(made, name)
-    return getattr(made, "__dict__", {}), slots
-
-
-def _state_of(made: object) -> Any:
-    """What a subclass adds, as pickle takes it."""
-    attributes, slots = _attributes_of(made)
-    return (attributes or None, slots) if slots else attributes or None
-
-
-def _add_attributes(made: object, added: tuple[dict[str, Any], dict[str, Any]]) -> None:
-    attributes, slots = added
-    if attributes:
-        made.__dict__.update(attributes)
-    for name, value in slots.items():
-        setattr(made, name, value)
-
-
 def _new_memory(num_words: int) -> memoryview:
     """Memory of this many words, all of them clear, from where a line of the cache begins."""
     memory = memoryview(bytearray(8 * num_words + _LINE))
@@ -67,17 +43,12 @@ def _new_memory(num_words: int) -> memoryview:
     return memory[first : first + 8 * num_words]
 
 
-def _words_in(view: memoryview) -> tuple[int, int]:
-    """The address of the words, and how many they are."""
-    return ctypes.addressof(ctypes.c_char.from_buffer(view)), view.nbytes // 8
-
-
 class Plain(Base[Kind]):
     """A filter whose calls come one after the other, as `Filter` says."""
 
     __slots__ = ()
     _new_lock, _new_memory = staticmethod(new_lock), staticmethod(_new_memory)
-    _words_in = staticmethod(_words_in)
+    _words_in = staticmethod(words_in)
 
     def __or__(self, other: Kind) -> Self:
         """A filter of what one of the two contains. It raises as `|=`."""
@@ -142,7 +113,7 @@ class Plain(Base[Kind]):
     def copy(self) -> Self:
         """A filter with words of its own, which are equal to these."""
         made = self._copy()
-        _add_attributes(made, _attributes_of(self))
+        add_attributes(made, attributes_of(self))
         return made
 
     __copy__ = copy
@@ -150,12 +121,12 @@ class Plain(Base[Kind]):
     def __deepcopy__(self, memo: Any) -> Self:
         made = self._copy()
         memo[id(self)] = made
-        _add_attributes(made, copy.deepcopy(_attributes_of(self), memo))
+        add_attributes(made, copy.deepcopy(attributes_of(self), memo))
         return made
 
     def __reduce__(self) -> tuple[Any, ...]:
         """Pickles the bytes of the file, which have the key, and what a subclass adds."""
-        return _restored, (type(self), self.to_bytes()), _state_of(self)
+        return _restored, (type(self), self.to_bytes()), state_of(self)
 
     def __reduce_ex__(self, protocol: Any) -> Any:
         """From protocol 5 on it hands out the words themselves, which `buffer_callback` may take.
@@ -166,7 +137,7 @@ class Plain(Base[Kind]):
             return self.__reduce__()
         words = pickle.PickleBuffer(self._view.toreadonly())
         made = type(self), self._num_hashes, self._key, words
-        return _restored_words, made, _state_of(self)
+        return _restored_words, made, state_of(self)
 
     def __sizeof__(self) -> int:
         """The bytes of memory, those of its words included."""
@@ -183,28 +154,73 @@ class Plain(Base[Kind]):
         """The words, as a list of numbers."""
         return self._copy().view().tolist()
 
-    def _file(self, sealed: bool) -> bytearray:
+    def _parts(self) -> Iterator[memoryview]:
+        view = self._view
+        for first in range(0, view.nbytes, PART):
+            yield self._part(view[first : first + PART])
+
+    @alone
+    def _part(self, view: memoryview) -> memoryview:
+        return memoryview(bytearray(view))
+
+    def _head(self, seal: int) -> bytes:
+        """The head of the file."""
+        head = ctypes.create_string_buffer(HEAD)
+        check(self._calls.head_write(self.num_words, self._num_hashes, self._key, seal, head))
+        return head.raw
+
+    def _write_file(self, file: BinaryIO, sealed: bool) -> None:
+        """Writes the file part by part, and its head with the seal of what was written."""
+        head, hasher = self._head(0), (ctypes.c_uint64 * 8)()
+        library.hasher_init(hasher, bytes(16))
+        library.hasher_update(hasher, head, _SEALED)
+        if any(head[_LAYOUT]):
+            library.hasher_update(hasher, head[_LAYOUT], 8)
+        file.write(head)
+        for part in self._parts():
+            if sealed:
+                library.hasher_update(hasher, words_in(part)[0], part.nbytes)
+            file.write(part)
+        if sealed:
+            file.seek(0)
+            file.write(self._head(library.hasher_finish(hasher)))
+
+    def _file(self, sealed: bool) -> io.BytesIO:
         """The bytes of the file, of the words as they are at one instant."""
-        file = bytearray(HEAD + self._view.nbytes)
-        self._copy_words(memoryview(file)[HEAD:])
-        at = ctypes.addressof(ctypes.c_char.from_buffer(file))
-        shape = self.num_words, self._num_hashes, self._key
-        seal = self._calls.seal(at + HEAD, *shape) if sealed else 0
-        check(self._calls.head_write(*shape, seal, at))
+        file = io.BytesIO()
+        file.seek(HEAD)
+        self._write_words(file)
+        with file.getbuffer() as memory:
+            at = ctypes.addressof(ctypes.c_char.from_buffer(memory))
+            shape = self.num_words, self._num_hashes, self._key
+            memory[:HEAD] = self._head(self._calls.seal(at + HEAD, *shape) if sealed else 0)
         return file
+
+    @alone
+    def _write_words(self, file: io.BytesIO) -> None:
+        file.write(self._view)
 
     def to_bytes(self, sealed: bool = True) -> bytes:
         """The bytes of the file that `save` writes."""
-        return bytes(self._file(sealed))
+        return self._file(sealed).getvalue()
 
     def save(self, path: Path, sealed: bool = True) -> None:
         """Writes a file, whole or not at all. It raises OSError where that fails.
 
-        A file that it replaces hands its rights on, and a link is replaced itself. A reader of a
-        sealed file finds out whether a byte was changed. A file that is to be changed while others
-        map it is not sealed.
+        A file that it replaces hands its rights on. A link stays, and the file to which it leads is
+        replaced. A device, a pipe and a descriptor of the process, as `/dev/stdout`, are written as
+        a stream. The words are read part by part, so that other threads may add in between: what
+        was added before is in the file. A reader of a sealed file finds out whether a byte was
+        changed. A file that is to be changed while others map it is not sealed.
         """
-        write_file(path, self._file(sealed))
+
+        def write(file: BinaryIO) -> None:
+            self._write_file(file, sealed)
+
+        def write_stream(stream: BinaryIO) -> None:
+            stream.write(self._file(sealed).getbuffer())
+
+        write_file(path, write, write_stream)
 
     @classmethod
     def from_bytes(cls, data: Buffer, *, max_hashes: Limit = 64, max_words: Limit = None) -> Self:

@@ -2,14 +2,28 @@
 
 from __future__ import annotations
 
+import copy
 import threading
 from fractions import Fraction
-from typing import Any, Tuple
+from typing import Any, Tuple, Type, TypeVar
 
 from ._checks import number_of_items, rate_parts
+from ._copies import add_attributes, attributes_of, state_of
 from ._filter import Filter
 from ._items import Buffer, Item, Rate
 from ._rates import rounded_outward
+
+_Rotating = TypeVar("_Rotating", bound="RotatingFilter")
+
+
+def _restored(
+    cls: Type[_Rotating], older: Filter, newer: Filter, items: int, taken: int
+) -> _Rotating:
+    """The filter of such parts, as they were copied or pickled."""
+    made = cls.__new__(cls)
+    made._older, made._newer, made._items, made._taken = older, newer, items, taken
+    made._lock = threading.RLock()
+    return made
 
 
 class RotatingFilter:
@@ -20,7 +34,8 @@ class RotatingFilter:
     An item goes into the newer one, also where the older one contains it. Once the newer one took
     `items`, it becomes the older, and the older one is cleared.
 
-    Items and what is raised are as of a `Filter`. Threads may call one filter at once.
+    Items and what is raised are as of a `Filter`. Threads may call one filter at once. It has no
+    file of its own: pickle keeps it.
     """
 
     __slots__ = ("_older", "_newer", "_items", "_taken", "_lock", "__weakref__")
@@ -89,6 +104,29 @@ class RotatingFilter:
         """As `in`, by the hash. One out of range raises ValueError."""
         with self._lock:
             return self._newer.contains_hash(value) or self._older.contains_hash(value)
+
+    def _parts(self) -> Tuple[Filter, Filter, int, int]:
+        """Copies of both filters, and the numbers, as they are at one instant."""
+        with self._lock:
+            return self._older.copy(), self._newer.copy(), self._items, self._taken
+
+    def copy(self: _Rotating) -> _Rotating:
+        """A filter with words of its own, which goes on as this one does."""
+        made = _restored(type(self), *self._parts())
+        add_attributes(made, attributes_of(self))
+        return made
+
+    __copy__ = copy
+
+    def __deepcopy__(self: _Rotating, memo: Any) -> _Rotating:
+        made = _restored(type(self), *self._parts())
+        memo[id(self)] = made
+        add_attributes(made, copy.deepcopy(attributes_of(self), memo))
+        return made
+
+    def __reduce__(self) -> Tuple[Any, ...]:
+        """Pickles both filters and the numbers, and what a subclass adds."""
+        return _restored, (type(self), *self._parts()), state_of(self)
 
     def exact_false_positive_rate(self) -> Tuple[Fraction, Fraction]:
         """Two bounds of the rate of false positives as both filters are.

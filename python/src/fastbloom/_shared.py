@@ -4,10 +4,10 @@ from __future__ import annotations
 
 import contextlib
 import mmap
-from typing import Any, Callable, ClassVar, Generic, NoReturn, TypeVar
+from typing import Any, Callable, ClassVar, Generic, Iterator, NoReturn, TypeVar
 
 from . import _library as library
-from ._base import Base, Kind, Self
+from ._base import PART, Base, Kind, Self, words_in
 from ._blocked import BlockedFilter, Lines
 from ._checks import EMPTY_WORDS, HEAD, TOO_MANY_WORDS, Limit, Refusal, check_file, number_of_hashes
 from ._files import Path, map_file, open_regular, shared_memory, size_of
@@ -102,6 +102,16 @@ class Shared(Base[Kind], Generic[Kind, OfWords]):
         return self._copied(library.shared_load)
 
     _copy = _now = load
+
+    def _parts(self) -> Iterator[memoryview]:
+        (words,) = self._words
+        if words.num_words == 0:  # it was released
+            raise Refusal(EMPTY_WORDS)
+        for first in range(0, words.memory.nbytes, PART):
+            loaded = library.SharedWords(words.memory[first : first + PART])
+            part = memoryview(bytearray(8 * loaded.num_words))
+            library.shared_load(loaded, *words_in(part))
+            yield part
 
     def _copied(self, call: Callable[..., bool]) -> OfWords:
         (words,) = self._words

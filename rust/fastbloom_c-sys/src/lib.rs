@@ -850,8 +850,8 @@ extern "C" {
 
     /// Writes a file, whole or not at all, with a seal or without one. It returns
     /// [`FASTBLOOM_OK`]; or [`FASTBLOOM_EMPTY_WORDS`], [`FASTBLOOM_TOO_MANY_WORDS`],
-    /// [`FASTBLOOM_MEMORY`] or [`FASTBLOOM_OUTPUT`], and then the old file is as it was. What is no
-    /// regular file isn't replaced.
+    /// [`FASTBLOOM_MEMORY`] or [`FASTBLOOM_OUTPUT`], and then the old file is as it was. A
+    /// device, a pipe and a descriptor, as `/dev/stdout`, are written as streams.
     #[must_use]
     pub fn fastbloom_save(path: *const c_char, filter: *const fastbloom_filter, sealed: bool)
         -> u8;

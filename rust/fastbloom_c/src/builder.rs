@@ -109,8 +109,7 @@ macro_rules! builder_calls {
                 })
             }
 
-            /// A builder of a filter with this rate of false positives. One of 1 and above gives
-            /// the smallest filter.
+            /// A builder of a filter with this rate of false positives.
             #[doc = $known]
             ///
             /// ```

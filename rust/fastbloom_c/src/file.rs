@@ -171,9 +171,13 @@ macro_rules! file_calls {
 
             /// Writes the file of this filter, sealed, whole or not at all. A new file is written
             /// beside the one at the path, gets its owner, mode and ACL as far as that is allowed,
-            /// and then replaces it; a link at the path is replaced itself. Last the folder is
-            /// flushed, so that the file's name outlasts a loss of power. A process that is killed
-            /// meanwhile leaves the new file, whose name ends in `.part`.
+            /// and then replaces it. Last the folder is flushed, so that the file's name outlasts a
+            /// loss of power. A process that is killed meanwhile leaves the new file, whose name
+            /// ends in `.part`.
+            ///
+            /// A link stays, and the file to which it leads is replaced. A device, a pipe and a
+            /// descriptor of this process, as `/dev/stdout`, are written as a stream: nothing is
+            /// replaced or truncated.
             ///
             /// ```
             #[doc = $use]
@@ -186,9 +190,8 @@ macro_rules! file_calls {
             /// ```
             ///
             /// # Errors
-            /// That of the file system; and where a folder, a device, a pipe or a socket is at the
-            /// path. What was there is then still there. Only where the flush of the folder failed,
-            /// the new file is.
+            /// That of the file system, as for a folder at the path. What was there is then still
+            /// there. Only where the flush of the folder failed, the new file is.
             pub fn save(&self, path: impl AsRef<Path>) -> io::Result<()> {
                 save(self, path.as_ref(), true)
             }

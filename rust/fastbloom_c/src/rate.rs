@@ -3,11 +3,10 @@
 use crate::Error;
 use std::str::FromStr;
 
-/// A rate of false positives, as a fraction above zero.
+/// A rate of false positives, as a fraction above 0 and below 1.
 ///
-/// Two rates are equal where they are the same number. [`new`](Rate::new) takes one of 1 and above,
-/// as the Rust crate does: it gives the smallest filter. So where a user chooses the rate, read it by
-/// `parse` or `try_from`, which refuse such a one.
+/// Two rates are equal where they are the same number. One of 1 and above, which the Rust crate
+/// takes, is refused: it is mostly the inverse of the one that was meant.
 ///
 /// ```
 /// use fastbloom_c::{Error, Rate};
@@ -16,6 +15,7 @@ use std::str::FromStr;
 /// assert_eq!((rate.num(), rate.den()), (1, 1000));
 /// assert_eq!(rate, Rate::new(2, 2000)?);
 /// assert_eq!(Rate::new(0, 5), Err(Error::ZeroRate));
+/// assert_eq!(Rate::new(1000, 1), Err(Error::NotARate));
 /// # Ok::<(), Error>(())
 /// ```
 #[derive(Clone, Copy, Debug)]
@@ -25,7 +25,7 @@ pub struct Rate {
 }
 
 impl Rate {
-    /// The rate `num / den`. It may be 1 and above, which gives the smallest filter.
+    /// The rate `num / den`.
     ///
     /// ```
     /// # use fastbloom_c::{Error, Rate};
@@ -34,10 +34,13 @@ impl Rate {
     /// ```
     ///
     /// # Errors
-    /// [`Error::ZeroRate`] where a part is zero.
+    /// [`Error::ZeroRate`] where a part is zero, and [`Error::NotARate`] for a rate of 1 and above.
     pub fn new(num: u64, den: u64) -> Result<Rate, Error> {
         if num == 0 || den == 0 {
             return Err(Error::ZeroRate);
+        }
+        if num >= den {
+            return Err(Error::NotARate);
         }
         Ok(Rate { num, den })
     }

@@ -181,7 +181,6 @@ fn sizes_are_those_of_the_formulas() {
     assert_eq!(rate(1, 1000, 2), (64, 22));
     assert_eq!(rate(1, 1000, 1000), (64 * 225, 10));
     assert_eq!(rate(1, u64::MAX, 1).0, 128);
-    assert_eq!(rate(3, 2, 1000).0, 64);
     assert_eq!(rate(1, 2, 0), rate(1, 2, 1));
 }
 

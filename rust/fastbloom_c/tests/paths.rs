@@ -4,7 +4,8 @@ use fastbloom_c::{
     AtomicBlockedBloomFilter, AtomicBloomFilter, BlockedBloomFilter, BloomFilter, Error, Rate,
 };
 use std::error::Error as _;
-use std::io::{BufRead, BufReader};
+use std::io::{BufRead, BufReader, Write};
+use std::os::fd::AsRawFd;
 use std::os::unix::fs::{symlink, FileTypeExt, PermissionsExt};
 use std::os::unix::net::UnixListener;
 use std::path::{Path, PathBuf};
@@ -60,16 +61,33 @@ fn a_file_is_saved_whole_with_the_mode_of_the_old_one() {
 }
 
 #[test]
-fn a_link_is_replaced_and_not_what_it_leads_to() {
+fn a_link_stays_and_what_it_leads_to_is_replaced() {
     let folder = Folder::new("links");
     let (path, other) = (folder.0.join("seen.bloom"), folder.0.join("other"));
-    fs::write(&other, "other").unwrap();
-    symlink(&other, &path).unwrap();
-    seen().save(&path).unwrap();
-    assert_eq!(fs::read(&other).unwrap(), b"other");
-    assert!(path.symlink_metadata().unwrap().is_file());
-    assert_eq!(BloomFilter::load(&path).unwrap(), seen());
+    symlink("other", &path).unwrap();
+    for there in [false, true] {
+        if there {
+            fs::write(&other, "other").unwrap();
+        }
+        seen().save(&path).unwrap();
+        assert_eq!(fs::read_link(&path).unwrap(), Path::new("other"));
+        assert_eq!(fs::read(&other).unwrap(), seen().to_bytes());
+    }
     assert_eq!(folder.names(), ["other", "seen.bloom"]);
+}
+
+#[test]
+fn a_descriptor_goes_on_at_its_place() {
+    let folder = Folder::new("descriptor");
+    let path = folder.0.join("log");
+    let mut file = fs::File::create(&path).unwrap();
+    let name = format!("/dev/fd/{}", file.as_raw_fd());
+    file.write_all(b"before").unwrap();
+    seen().save(&name).unwrap();
+    file.write_all(b"after").unwrap();
+    let wanted = [b"before", &seen().to_bytes()[..], b"after"].concat();
+    assert_eq!(fs::read(&path).unwrap(), wanted);
+    assert_eq!(folder.names(), ["log"]);
 }
 
 #[test]
@@ -168,7 +186,7 @@ fn what_cannot_be_loaded_is_reported() {
 }
 
 #[test]
-fn what_is_no_regular_file_is_neither_replaced_nor_waited_for() {
+fn what_is_no_regular_file_is_neither_replaced_nor_read() {
     let folder = Folder::new("irregular");
     let path = |name: &str| folder.0.join(name);
     fs::create_dir(path("folder")).unwrap();
@@ -177,13 +195,17 @@ fn what_is_no_regular_file_is_neither_replaced_nor_waited_for() {
     let made = Command::new("mkfifo").arg(path("pipe")).status().unwrap();
     assert!(made.success());
     let lines = BlockedBloomFilter::with_num_bits(512).unwrap().hashes(4);
+    for name in ["folder", "socket"] {
+        assert!(seen().save(path(name)).is_err());
+        assert!(lines.save_unsealed(path(name)).is_err());
+    }
+    seen().save(path("null")).unwrap();
+    let mut cat = Command::new("cat");
+    let cat = cat.arg(path("pipe")).stdout(Stdio::piped()).spawn();
+    seen().save(path("pipe")).unwrap();
+    let read = cat.unwrap().wait_with_output().unwrap();
+    assert_eq!(read.stdout, seen().to_bytes());
     for name in folder.names() {
-        let wanted = match &name[..] {
-            "folder" => io::ErrorKind::IsADirectory,
-            _ => io::ErrorKind::InvalidInput,
-        };
-        assert_eq!(seen().save(path(&name)).unwrap_err().kind(), wanted);
-        assert_eq!(lines.save_unsealed(path(&name)).unwrap_err().kind(), wanted);
         let refused = BloomFilter::load(path(&name));
         assert!(matches!(refused, Err(Error::Input(_))), "{name}");
         let refused = BlockedBloomFilter::load(path(&name));

@@ -40,6 +40,15 @@ fn parts_of_zero_are_refused() {
     }
 }
 
+/// As Python and C++ refuse it: such a rate is mostly the inverse of the one that was meant.
+#[test]
+fn rates_of_1_and_above_are_refused() {
+    for (num, den) in [(1, 1), (1000, 1), (1001, 1000), (u64::MAX, u64::MAX)] {
+        assert_eq!(Rate::new(num, den), Err(Error::NotARate));
+    }
+    assert!(Rate::new(u64::MAX - 1, u64::MAX).is_ok());
+}
+
 /// No machine has 2^60 bytes of memory.
 #[test]
 fn a_size_that_has_no_room_is_refused() {
