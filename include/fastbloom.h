@@ -43,6 +43,8 @@
 #define FASTBLOOM_VERSION_MAJOR 0
 #define FASTBLOOM_VERSION_MINOR 17
 #define FASTBLOOM_VERSION_PATCH 0
+/* The version and, behind the plus sign, which release of the port it is. */
+#define FASTBLOOM_RELEASE "0.17.0+rattle.1"
 
 /* Marks a call whose result must be looked at. It is empty where the compiler has no such mark. */
 #ifndef FASTBLOOM_MUST_USE
