@@ -163,7 +163,8 @@ bool fastbloom_insert_hash(uint64_t *words, size_t num_words, uint32_t num_hashe
 bool fastbloom_insert_hashes(uint64_t *words, size_t num_words, uint32_t num_hashes,
                              const uint64_t *hashes, size_t count);
 
-/* Whether all positions of a hash are set: false means that it was never inserted. */
+/* Whether all positions of a hash are set: false means that it wasn't inserted since one of them
+ * was last cleared. */
 bool fastbloom_contains_hash(const uint64_t *words, size_t num_words, uint32_t num_hashes,
                              uint64_t hash);
 
@@ -304,7 +305,8 @@ FASTBLOOM_MUST_USE bool fastbloom_blocked_jaccard(const uint64_t *words, size_t 
 bool fastbloom_blocked_insert_hash(uint64_t *words, size_t num_words, uint32_t num_hashes,
                                    uint64_t hash);
 
-/* Whether all positions of a hash are set: false means that it was never inserted. */
+/* Whether all positions of a hash are set: false means that it wasn't inserted since one of them
+ * was last cleared. */
 bool fastbloom_blocked_contains_hash(const uint64_t *words, size_t num_words, uint32_t num_hashes,
                                      uint64_t hash);
 

@@ -142,10 +142,10 @@ class Base(Generic[Kind]):
 
     @alone
     def __contains__(self, item: Item) -> bool:
-        """Whether an item is contained. False: it was never added. True may be a false positive.
+        """Whether an item is contained. True may be a false positive.
 
-        In a shared filter, while no call clears bits, False means that no add of it had returned
-        when this call began.
+        False means that it wasn't added since the last clear or intersection. In a shared filter,
+        while no call clears bits, False means that no add of it had returned when this call began.
         """
         data = bytes_of(item)
         return self._calls.contains(*self._words, self._num_hashes, self._key, data, len(data))
