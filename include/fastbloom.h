@@ -341,8 +341,7 @@ bool fastbloom_blocked_contains(const uint64_t *words, size_t num_words, uint32_
 /* A filter that threads share, and processes too. Any number of threads may make these calls on the
  * same words at once. Each is made of atomic operations on single words. So a bit that a call set is
  * lost to no other call, but to one that clears it. No call takes a lock or waits for a thread. An
- * insert's | on a word is tried again only where another thread changed that word in between, so
- * some thread always gets on (lock-free).
+ * insert's | on a word is tried again only where another thread changed that word in between.
  *
  * The words are the caller's, passed by value as a pointer and a number: in the heap, in a mapped
  * file, or in memory that processes share. They are those of a plain filter, and the same words may
