@@ -32,7 +32,8 @@ export CC CFLAGS LDFLAGS  # for the library: CC is the compiler with its options
 PROGRAMS = bloom duplicates summaries
 PAGES = $(PROGRAMS) $(patsubst %,summaries-%,build unite ask info compare)
 HEADERS = $(patsubst %,fastbloom%,.h .hpp _blocked.hpp _blocked_shared.hpp _shared.hpp)
-VERSION := $(shell sed -n 's/^\#define FASTBLOOM_VERSION "\(.*\)"$$/\1/p' include/fastbloom.h)
+RELEASE := $(shell sed -n 's/^\#define FASTBLOOM_RELEASE "\(.*\)"$$/\1/p' include/fastbloom.h)
+VERSION = $(firstword $(subst +, ,$(RELEASE)))
 MAJOR = $(firstword $(subst ., ,$(VERSION)))
 SHARED = libfastbloom_c.so
 SONAME = $(SHARED).$(MAJOR)
@@ -41,7 +42,8 @@ DESCRIPTIONS = pkgconfig/fastbloom.pc cmake/fastbloom/fastbloom-config.cmake \
 
 BINARIES = $(foreach it,$(PROGRAMS),crates/$(it)/out/$(it))
 ARCHIVE = out/c/libfastbloom_c.a
-SOURCES := crates.txt $(shell find crates -name out -prune -o -regex '.*\.\(rt\|antt\)' -print)
+# (with their folders, whose times tell that a file is gone)
+SOURCES := crates.txt $(shell find crates/*/{src,specs,proofs} 2> /dev/null)
 EXTENSION = out/c/fastbloom_sqlite.so
 HAS_SQLITE := $(shell $(CC) -include sqlite3ext.h -E -x c /dev/null > /dev/null 2>&1 && echo yes)
 C_SOURCES = bin/build-c $(wildcard c/*) include/fastbloom.symbols $(HEADERS:%=include/%)
@@ -60,6 +62,9 @@ MODULES = '$(DESTDIR)$(pythondir)'/fastbloom '$(DESTDIR)$(pythondir)'/fastbloom-
 # A file by its short name, and the path from one folder to another.
 short = $(if $(SHORT),ln -sf fastbloom-$(2) '$(DESTDIR)$(1)'/$(2);)
 between = $(shell realpath -ms --relative-to='$(1)' '$(2)')
+# The system's own headers have no option -I, so pkg-config has to see where they are.
+OF_SYSTEM = $(if $(filter /usr/include,$(includedir)),\
+  s|^libdir=.*|libdir=$(libdir)|; s|^includedir=.*|includedir=$(includedir)|)
 
 .PHONY: all check install man names release uninstall
 all: $(BINARIES) $(ARCHIVE) $(if $(HAS_SQLITE),$(EXTENSION))
@@ -92,11 +97,15 @@ man: $(BINARIES)
 	  printf '[name]\nfastbloom-%s \\- %s\n' "$$page" "$$about" > "$$work/name"; \
 	  help2man --no-info --manual=fastbloom --version-string=$(VERSION) --include="$$work/name" \
 	    --include=man/common.h2m --help-option="$$command --help" "$$run" | \
-	    sed '/^\.TH/s/"1" "[^"]*"/1 ""/; /^\.\\" DO NOT/s/ [0-9.]*$$/./' > '$(MAN)'/$$page.1; \
-	done
+	    sed '/^\.TH/s/"1" "[^"]*"/1 ""/; /^\.\\" DO NOT/s/ [0-9.]*$$/./' > "$$work/$$page.1"; \
+	done; cp "$$work"/*.1 '$(MAN)'
 
-# A program of another's that has a short name stays as it is.
+# The names of folders have no blanks, at which make parts words, and stand in quotes. A program of
+# another's that has a short name stays as it is.
+PLACES = DESTDIR prefix bindir libdir includedir datadir mandir bashdir zshdir fishdir pythondir
 names:
+	$(foreach it,$(PLACES),$(if $(word 2,x$(subst ', ,$($(it)))x),\
+	  $(error $(it) has a blank or a quote: $($(it)))))
 	for name in $(if $(SHORT),$(PROGRAMS)); do \
 	  file='$(DESTDIR)$(bindir)'/$$name; \
 	  [[ ! -e $$file || $$(readlink -- "$$file") = fastbloom-$$name ]] || \
@@ -123,8 +132,9 @@ install: names all
 	  ln -sf $(SONAME) '$(DESTDIR)$(libdir)'/$(SHARED); \
 	fi
 	[ ! -e $(EXTENSION) ] || install -m 644 $(EXTENSION) '$(DESTDIR)$(libdir)'
-	include=$(call between,$(libdir),$(includedir)); for file in $(DESCRIPTIONS); do \
-	  sed "s|@VERSION@|$(VERSION)|; s|@MAJOR@|$(MAJOR)|; s|@INCLUDE@|$$include|" c/$${file##*/}.in | \
+	for file in $(DESCRIPTIONS); do \
+	  sed -e "s|@RELEASE@|$(RELEASE)|; s|@VERSION@|$(VERSION)|; s|@MAJOR@|$(MAJOR)|" \
+	    -e 's|@INCLUDE@|$(call between,$(libdir),$(includedir))|; $(OF_SYSTEM)' c/$${file##*/}.in | \
 	    install -m 644 /dev/stdin '$(DESTDIR)$(libdir)'/$$file; \
 	done
 ifneq ($(pythondir),)

@@ -43,6 +43,8 @@
 #define FASTBLOOM_VERSION_MAJOR 0
 #define FASTBLOOM_VERSION_MINOR 17
 #define FASTBLOOM_VERSION_PATCH 0
+/* The version and, behind the plus sign, which release of the port it is. */
+#define FASTBLOOM_RELEASE "0.17.0+rattle.1"
 
 /* Marks a call whose result must be looked at. It is empty where the compiler has no such mark. */
 #ifndef FASTBLOOM_MUST_USE
@@ -161,7 +163,8 @@ bool fastbloom_insert_hash(uint64_t *words, size_t num_words, uint32_t num_hashe
 bool fastbloom_insert_hashes(uint64_t *words, size_t num_words, uint32_t num_hashes,
                              const uint64_t *hashes, size_t count);
 
-/* Whether all positions of a hash are set: false means that it was never inserted. */
+/* Whether all positions of a hash are set: false means that it wasn't inserted since one of them
+ * was last cleared. */
 bool fastbloom_contains_hash(const uint64_t *words, size_t num_words, uint32_t num_hashes,
                              uint64_t hash);
 
@@ -302,7 +305,8 @@ FASTBLOOM_MUST_USE bool fastbloom_blocked_jaccard(const uint64_t *words, size_t 
 bool fastbloom_blocked_insert_hash(uint64_t *words, size_t num_words, uint32_t num_hashes,
                                    uint64_t hash);
 
-/* Whether all positions of a hash are set: false means that it was never inserted. */
+/* Whether all positions of a hash are set: false means that it wasn't inserted since one of them
+ * was last cleared. */
 bool fastbloom_blocked_contains_hash(const uint64_t *words, size_t num_words, uint32_t num_hashes,
                                      uint64_t hash);
 
@@ -337,8 +341,7 @@ bool fastbloom_blocked_contains(const uint64_t *words, size_t num_words, uint32_
 /* A filter that threads share, and processes too. Any number of threads may make these calls on the
  * same words at once. Each is made of atomic operations on single words. So a bit that a call set is
  * lost to no other call, but to one that clears it. No call takes a lock or waits for a thread. An
- * insert's | on a word is tried again only where another thread changed that word in between, so
- * some thread always gets on (lock-free).
+ * insert's | on a word is tried again only where another thread changed that word in between.
  *
  * The words are the caller's, passed by value as a pointer and a number: in the heap, in a mapped
  * file, or in memory that processes share. They are those of a plain filter, and the same words may

@@ -332,10 +332,10 @@ template <typename Derived, typename Calls> class reader {
 public:
     void swap(Derived &other) noexcept { store_.swap(access::of(other)); }
 
-    // Whether an item is contained. False means that it was never inserted; for a filter that
-    // threads share, while no call clears bits, that no insert of it had returned when this call
-    // began. True may be a false positive. A null pointer is no text, and nor is 0, which stands
-    // for one: a number goes in by its bytes or its hash.
+    // Whether an item is contained. False means that it wasn't inserted since the last clear or
+    // intersection; for a filter that threads share, while no call clears bits, that no insert of
+    // it had returned when this call began. True may be a false positive. A null pointer is no
+    // text, and nor is 0, which stands for one: a number goes in by its bytes or its hash.
     bool contains(std::string_view item) const noexcept {
         return contains(item.data(), item.size());
     }

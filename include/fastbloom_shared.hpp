@@ -9,8 +9,8 @@
 //
 // Each call is const, also those that insert: any number of threads may make them at once. None
 // takes a lock or waits for a thread. An insert's | on a word is tried again only where another
-// thread changed that word in between, so some thread always gets on (lock-free). A move, a swap and
-// the end of the filter are no such calls: no other thread uses the filter meanwhile.
+// thread changed that word in between. A move, a swap and the end of the filter are no such calls:
+// no other thread uses the filter meanwhile.
 //
 // A filter owns its words, or maps them from a file, or lies over words of the caller's: `over`
 // takes them, in memory that processes share. Then the caller keeps what fastbloom.h asks for: the

@@ -119,11 +119,26 @@ static void result_file(sqlite3_context *context, const filter *f) {
 }
 
 /* Fails for a reason, or for want of memory where that is NULL. */
-static void fail(sqlite3_context *context, const char *why) {
+static void fail(sqlite3_context *context, int code, const char *why) {
     char *text = why == NULL ? NULL : sqlite3_mprintf("bloom: %s", why);
     if (text != NULL) sqlite3_result_error(context, text, -1);
+    if (text != NULL) sqlite3_result_error_code(context, code);
     if (text == NULL) sqlite3_result_error_nomem(context);
     sqlite3_free(text);
+}
+
+/* Asks for memory for the file of a filter, or fails. */
+static bool make_file(sqlite3_context *context, filter *f) {
+    static const char format[] = "a file of %llu bytes is too big: SQLITE_LIMIT_LENGTH is %d";
+    const sqlite3_uint64 len = HEAD + 8 * f->num_words;
+    const int most = sqlite3_limit(sqlite3_context_db_handle(context), SQLITE_LIMIT_LENGTH, -1);
+    const bool fits = len <= (sqlite3_uint64)most;
+    char why[sizeof format + 24];
+    f->file = fits ? sqlite3_malloc64(len) : NULL;
+    if (f->file != NULL) return true;
+    sqlite3_snprintf(sizeof why, why, format, len, most);
+    fail(context, SQLITE_TOOBIG, fits ? NULL : why);
+    return false;
 }
 
 /* Begins the filter that the first row of an aggregate asks for, or fails. */
@@ -134,9 +149,8 @@ static void begin_file(sqlite3_context *context, int argc, sqlite3_value **argv,
     const void *key = argc == 4 ? sqlite3_value_blob(argv[3]) : f->key;
     const char *why = plan(items < 0 ? 0 : (uint64_t)items, rate, f);
     if (argc == 4 && sqlite3_value_bytes(argv[3]) != KEY) why = "the key is a BLOB of 16 bytes";
-    f->file = why != NULL || key == NULL ? NULL : sqlite3_malloc64(HEAD + 8 * f->num_words);
-    if (f->file == NULL) fail(context, why);
-    if (f->file == NULL) return;
+    if (why != NULL || key == NULL) fail(context, SQLITE_ERROR, why);
+    if (why != NULL || key == NULL || !make_file(context, f)) return;
     memmove(f->key, key, KEY);
     memset(f->file, 0, HEAD + 8 * f->num_words);
 }
@@ -148,7 +162,7 @@ static void bloom_step(sqlite3_context *context, int argc, sqlite3_value **argv)
     if (f != NULL && f->file == NULL) begin_file(context, argc, argv, f);
     if (f != NULL && f->file == NULL) return;
     int known = f == NULL ? -1 : hash_of(argv[0], f->key, &hash);
-    if (known < 0) fail(context, NULL);
+    if (known < 0) fail(context, SQLITE_NOMEM, NULL);
     if (known <= 0) return;
     fastbloom_blocked_insert_hash((void *)(f->file + HEAD), f->num_words, f->num_hashes, hash);
 }
@@ -166,7 +180,8 @@ static void look_up(sqlite3_context *context, sqlite3_value *value, bool is_chec
     uint8_t code = read_file(value, is_checked, &f);
     int known = code == FASTBLOOM_OK ? hash_of(item, f.key, &hash) : 0;
     bool is_full = known < 0 || code == FASTBLOOM_MEMORY;
-    if (is_full || code != FASTBLOOM_OK) fail(context, is_full ? NULL : fastbloom_strerror(code));
+    if (is_full || code != FASTBLOOM_OK)
+        fail(context, SQLITE_ERROR, is_full ? NULL : fastbloom_strerror(code));
     if (is_full || code != FASTBLOOM_OK) return;
     if (known > 0) {
         memcpy(line, f.file + HEAD + LINE * fastbloom_blocked_line(f.num_words, hash), LINE);
@@ -205,8 +220,10 @@ static void in(sqlite3_context *context, int argc, sqlite3_value **argv) {
     bool is_full = code == SQLITE_NOMEM || (code == SQLITE_ROW && file == NULL);
     if (file != NULL) look_up(context, file, false, argv[1]);
     if (file != NULL) sqlite3_set_auxdata(context, 0, file, free_value);
-    if (file == NULL) fail(context, is_full ? NULL : sqlite3_errmsg(db));
-    if (file == NULL && !is_full && code != SQLITE_DONE) sqlite3_result_error_code(context, code);
+    if (code == SQLITE_DONE) code = SQLITE_ERROR;
+    const char *why = sqlite3_errmsg(db);
+    if (strncmp(why, "bloom: ", 7) == 0) why += 7; /* (as it is told by `fail`) */
+    if (file == NULL) fail(context, code, is_full ? NULL : why);
     sqlite3_finalize(read);
 }
 
@@ -214,7 +231,8 @@ typedef struct table {
     sqlite3_vtab base;
     sqlite3 *db;
     char *schema, *shadow, *quoted; /* the names of schema and shadow table, and both in SQL */
-    sqlite3_stmt *read;
+    sqlite3_blob *bits; /* the row that was looked into last; closed with the last cursor */
+    size_t cursors;
     uint64_t items, row[LINES * WORDS], other[LINES * WORDS];
     filter f; /* it has no words until the head was read */
 } table;
@@ -226,6 +244,7 @@ typedef struct cursor {
     sqlite3_vtab_cursor base;
     bool has_row;
     sqlite3_value *item;
+    uint64_t hash; /* the row's number: SQLite takes rows of one number for one row */
 } cursor;
 
 static int refuse(table *t, const char *why) {
@@ -259,21 +278,28 @@ static size_t bytes_of(const table *t, sqlite3_int64 row) {
     return before >= lines ? 0 : LINE * (lines - before < LINES ? lines - before : LINES);
 }
 
-/* Copies a part of a row, or all of it. */
-static int read_row(table *t, sqlite3_int64 row, size_t from, size_t len, void *to) {
-    if (t->read == NULL) {
-        char *sql = sqlite3_mprintf("SELECT bits FROM %s WHERE page = ?", t->quoted);
-        int made = sql == NULL ? SQLITE_NOMEM : sqlite3_prepare_v2(t->db, sql, -1, &t->read, NULL);
-        sqlite3_free(sql);
-        if (made != SQLITE_OK) return made == SQLITE_ERROR ? refuse_row(t, row) : made;
-    }
-    sqlite3_bind_int64(t->read, 1, row);
-    const uint8_t *bits =
-        sqlite3_step(t->read) == SQLITE_ROW ? sqlite3_column_blob(t->read, 0) : NULL;
-    bool is_right = bits != NULL && (size_t)sqlite3_column_bytes(t->read, 0) == bytes_of(t, row);
-    if (is_right) memcpy(to, bits + from, len);
-    int code = sqlite3_reset(t->read);
-    return code != SQLITE_OK || is_right ? code : refuse_row(t, row);
+/* Opens a row to read or write there, or moves a handle to it. SQLite refuses a view or a virtual
+ * table here, which might read this table in turn. A handle that writes doesn't stay open behind an
+ * insert, where it would be in the way of COMMIT. */
+static int open_row(table *t, sqlite3_int64 row, bool writes, sqlite3_blob **bits) {
+    int code = *bits != NULL
+                   ? sqlite3_blob_reopen(*bits, row)
+                   : sqlite3_blob_open(t->db, t->schema, t->shadow, "bits", row, writes, bits);
+    bool is_wrong = code == SQLITE_OK && (size_t)sqlite3_blob_bytes(*bits) != bytes_of(t, row);
+    return is_wrong || code == SQLITE_ERROR ? refuse_row(t, row) : code;
+}
+
+static int close_row(sqlite3_blob *bits, int code) {
+    int closed = sqlite3_blob_close(bits);
+    return code != SQLITE_OK ? code : closed;
+}
+
+/* Copies a part of a row. */
+static int read_part(table *t, sqlite3_int64 row, size_t from, size_t len, void *to) {
+    sqlite3_blob *bits = NULL;
+    int code = open_row(t, row, false, &bits);
+    if (code == SQLITE_OK) code = sqlite3_blob_read(bits, to, (int)len, (int)from);
+    return close_row(bits, code);
 }
 
 /* Reads the head, once. */
@@ -281,7 +307,7 @@ static int need_head(table *t) {
     uint8_t head[HEAD];
     uint64_t seal;
     if (t->f.num_words > 0) return SQLITE_OK;
-    int code = read_row(t, 0, 0, HEAD, head);
+    int code = read_part(t, 0, 0, HEAD, head);
     if (code != SQLITE_OK || read_head(head, &t->f, &seal) == FASTBLOOM_OK) return code;
     t->f.num_words = 0;
     return refuse_row(t, 0);
@@ -296,7 +322,6 @@ static sqlite3_int64 row_of(const table *t, uint64_t hash, size_t *from) {
 
 static int disconnect(sqlite3_vtab *base) {
     table *t = (table *)base;
-    sqlite3_finalize(t->read);
     sqlite3_free(t->schema);
     sqlite3_free(t->shadow);
     sqlite3_free(t->quoted);
@@ -305,10 +330,13 @@ static int disconnect(sqlite3_vtab *base) {
     return SQLITE_OK;
 }
 
+/* A view in the shadow table's place is dropped, too. What SQLite can't drop there, such as a table
+ * of a module that isn't loaded, stays, and is in the way of a new filter by its name. */
 static int destroy(sqlite3_vtab *base) {
     table *t = (table *)base;
     int code = run(t->db, "DROP TABLE IF EXISTS %s", t->quoted);
-    return code == SQLITE_OK ? disconnect(base) : code;
+    if (code == SQLITE_ERROR) code = run(t->db, "DROP VIEW IF EXISTS %s", t->quoted);
+    return code == SQLITE_OK || code == SQLITE_ERROR ? disconnect(base) : code;
 }
 
 /* Reads 32 hexadecimal digits. */
@@ -321,6 +349,10 @@ static bool read_key(const char *text, uint8_t key[KEY]) {
 /* Reads the arguments of CREATE VIRTUAL TABLE. It returns NULL, or what is wrong. */
 static const char *read_arguments(int argc, const char *const *argv, uint64_t *items, filter *f) {
     static const char usage[] = "write bloom(items=N, rate='1/N' [, key='HEX' | key=random])";
+    static const char *const names[] = {"items=", "rate=", "key="};
+    static const int lengths[] = {6, 5, 4};
+    enum { ITEMS, RATE, KEYS, NAMES };
+    bool was_given[NAMES] = {false}, is_repeated = false;
     char rate[64] = "", given[64];
     for (int i = 3; i < argc; i++) {
         size_t len = 0;
@@ -328,31 +360,21 @@ static const char *read_arguments(int argc, const char *const *argv, uint64_t *i
             if (strchr(" \t\r\n'\"", *from) == NULL) given[len++] = *from;
         if (len == sizeof given) return usage;
         given[len] = 0;
-        if (sqlite3_strnicmp(given, "items=", 6) == 0) {
-            if (read_number(given + 6, items) != given + len) *items = 0;
-        } else if (sqlite3_strnicmp(given, "rate=", 5) == 0) {
-            strcpy(rate, given + 5);
-        } else if (sqlite3_stricmp(given, "key=random") == 0) {
+        int name = 0;
+        while (name < NAMES && sqlite3_strnicmp(given, names[name], lengths[name]) != 0) name++;
+        if (name == NAMES) return usage;
+        const char *value = given + lengths[name];
+        is_repeated |= was_given[name];
+        was_given[name] = true;
+        if (name == ITEMS && read_number(value, items) != given + len) *items = 0;
+        if (name == RATE) strcpy(rate, value);
+        if (name == KEYS && sqlite3_stricmp(value, "random") == 0) {
             if (getrandom(f->key, KEY, 0) != KEY) return "the system has no random bytes";
-        } else if (sqlite3_strnicmp(given, "key=", 4) != 0 || !read_key(given + 4, f->key)) {
+        } else if (name == KEYS && !read_key(value, f->key)) {
             return usage;
         }
     }
-    return plan(*items, rate, f);
-}
-
-/* Opens a row to write there, or moves a handle to it. None stays open behind an insert, where it
- * would be in the way of COMMIT. */
-static int open_row(table *t, sqlite3_int64 row, sqlite3_blob **bits) {
-    int code = *bits != NULL ? sqlite3_blob_reopen(*bits, row)
-                             : sqlite3_blob_open(t->db, t->schema, t->shadow, "bits", row, 1, bits);
-    bool is_wrong = code == SQLITE_OK && (size_t)sqlite3_blob_bytes(*bits) != bytes_of(t, row);
-    return is_wrong || code == SQLITE_ERROR ? refuse_row(t, row) : code;
-}
-
-static int close_row(sqlite3_blob *bits, int code) {
-    int closed = sqlite3_blob_close(bits);
-    return code != SQLITE_OK ? code : closed;
+    return is_repeated ? "an argument is repeated" : plan(*items, rate, f);
 }
 
 /* Writes the empty filter, row by row. */
@@ -364,7 +386,7 @@ static int write_empty(table *t) {
     for (sqlite3_int64 row = 0; code == SQLITE_OK && (len = (int)bytes_of(t, row)) > 0; row++)
         code = run(t->db, insert, t->quoted, row, len);
     (void)!fastbloom_blocked_head_write(t->f.num_words, t->f.num_hashes, t->f.key, 0, head);
-    if (code == SQLITE_OK) code = open_row(t, 0, &bits);
+    if (code == SQLITE_OK) code = open_row(t, 0, true, &bits);
     if (code == SQLITE_OK) code = sqlite3_blob_write(bits, head, HEAD, 0);
     return close_row(bits, code);
 }
@@ -424,12 +446,18 @@ static int best_index(sqlite3_vtab *base, sqlite3_index_info *info) {
 
 static int open_cursor(sqlite3_vtab *base, sqlite3_vtab_cursor **made) {
     cursor *c = sqlite3_malloc64(sizeof *c);
-    (void)base;
-    if (c != NULL) *made = memset(c, 0, sizeof *c);
-    return c != NULL ? SQLITE_OK : SQLITE_NOMEM;
+    if (c == NULL) return SQLITE_NOMEM;
+    *made = memset(c, 0, sizeof *c);
+    ((table *)base)->cursors++;
+    return SQLITE_OK;
 }
 
 static int close_cursor(sqlite3_vtab_cursor *base) {
+    table *t = (table *)base->pVtab;
+    if (--t->cursors == 0) {
+        sqlite3_blob_close(t->bits);
+        t->bits = NULL;
+    }
     sqlite3_value_free(((cursor *)base)->item);
     sqlite3_free(base);
     return SQLITE_OK;
@@ -439,7 +467,7 @@ static int begin(sqlite3_vtab_cursor *base, int what, const char *text, int argc
                  sqlite3_value **argv) {
     cursor *c = (cursor *)base;
     table *t = (table *)base->pVtab;
-    uint64_t hash, line[WORDS];
+    uint64_t line[WORDS];
     size_t from;
     (void)text, (void)argc;
     sqlite3_value_free(c->item);
@@ -447,12 +475,18 @@ static int begin(sqlite3_vtab_cursor *base, int what, const char *text, int argc
     if (what == LIST) return refuse(t, "a filter answers only WHERE item = .. COLLATE BINARY");
     int code = need_head(t);
     if (code != SQLITE_OK || what == ABOUT) return code;
-    int known = hash_of(argv[0], t->f.key, &hash);
+    int known = hash_of(argv[0], t->f.key, &c->hash);
     if (known <= 0) return known == 0 ? SQLITE_OK : SQLITE_NOMEM;
-    sqlite3_int64 row = row_of(t, hash, &from);
-    code = read_row(t, row, from, LINE, line);
+    sqlite3_int64 row = row_of(t, c->hash, &from);
+    code = open_row(t, row, false, &t->bits);
+    if ((code & 255) == SQLITE_ABORT) { /* an error or a rollback has ended the handle */
+        sqlite3_blob_close(t->bits);
+        t->bits = NULL;
+        code = open_row(t, row, false, &t->bits);
+    }
+    if (code == SQLITE_OK) code = sqlite3_blob_read(t->bits, line, LINE, (int)from);
     if (code != SQLITE_OK) return code;
-    c->has_row = fastbloom_blocked_contains_hash(line, WORDS, t->f.num_hashes, hash);
+    c->has_row = fastbloom_blocked_contains_hash(line, WORDS, t->f.num_hashes, c->hash);
     return c->has_row && (c->item = sqlite3_value_dup(argv[0])) == NULL ? SQLITE_NOMEM : SQLITE_OK;
 }
 
@@ -463,44 +497,83 @@ static int next(sqlite3_vtab_cursor *base) {
 
 static int at_end(sqlite3_vtab_cursor *base) { return !((cursor *)base)->has_row; }
 
+/* About how many items set so many bits: the most that are expected to set no more, or 1. */
+static uint64_t estimate(const filter *f, uint64_t ones) {
+    const long double lines = (long double)(f->num_words / WORDS), bits = 8 * LINE;
+    const long double left = 1 - (long double)ones / (bits * lines);
+    /* The part of all bits that stays clear after an item, after two, after four and so on. */
+    long double clear[64], of_line = 1, now = 1;
+    uint64_t items = 0;
+    for (uint32_t i = 0; i < f->num_hashes; i++) of_line *= (bits - 1) / bits;
+    clear[0] = 1 - (1 - of_line) / lines;
+    for (int i = 1; i < 64; i++) clear[i] = clear[i - 1] * clear[i - 1];
+    for (int i = 63; i >= 0; i--) {
+        if (now * clear[i] < left) continue;
+        now *= clear[i];
+        items += (uint64_t)1 << i;
+    }
+    return items == 0 && ones > 0 ? 1 : items;
+}
+
 /* Tells about how many items there are, or null where each bit is set, and the rate of false
- * positives now, both as the library does. */
-static void result_info(sqlite3_context *context, uint64_t items, const filter *f) {
+ * positives now, both as the library does. It reads one row after the other. */
+static int result_info(sqlite3_context *context, table *t) {
     static const char json[] = "{\"items\":%llu,\"estimate\":%s,\"rate\":%.6g}";
-    const uint64_t *words = (const void *)(f->file + HEAD);
-    char estimate[24] = "null";
-    uint64_t from, to;
-    size_t low, high;
-    (void)!fastbloom_blocked_estimate(words, f->num_words, f->num_hashes, &low, &high);
-    (void)!fastbloom_blocked_rate_now(words, f->num_words, f->num_hashes, &from, &to);
-    unsigned long long about = low > 0 ? low : high;
-    if (high < SIZE_MAX) sqlite3_snprintf(sizeof estimate, estimate, "%llu", about);
-    char *text = sqlite3_mprintf(json, items, estimate, (double)to / 0x1p63);
-    if (text == NULL) fail(context, NULL);
-    if (text != NULL) sqlite3_result_text(context, text, -1, sqlite3_free);
+    char about[24] = "null";
+    uint64_t ones = 0, from, to;
+    double rate = 0;
+    sqlite3_blob *bits = NULL;
+    size_t len;
+    int code = SQLITE_OK;
+    for (sqlite3_int64 row = 1; code == SQLITE_OK && (len = bytes_of(t, row)) > 0; row++) {
+        code = open_row(t, row, false, &bits);
+        if (code == SQLITE_OK) code = sqlite3_blob_read(bits, t->row, (int)len, 0);
+        if (code != SQLITE_OK) break;
+        ones += fastbloom_count_ones(t->row, len / 8);
+        (void)!fastbloom_blocked_rate_now(t->row, len / 8, t->f.num_hashes, &from, &to);
+        rate += (double)to * (double)(len / 8) / (double)t->f.num_words;
+    }
+    code = close_row(bits, code);
+    if (code != SQLITE_OK) return code;
+    if (ones < 64 * t->f.num_words)
+        sqlite3_snprintf(sizeof about, about, "%llu", estimate(&t->f, ones));
+    char *text = sqlite3_mprintf(json, t->items, about, rate / 0x1p63);
+    if (text == NULL) return SQLITE_NOMEM;
+    sqlite3_result_text(context, text, -1, sqlite3_free);
+    return SQLITE_OK;
+}
+
+/* Returns the file of all rows. */
+static int result_rows(sqlite3_context *context, table *t) {
+    filter f = t->f;
+    sqlite3_blob *bits = NULL;
+    size_t len, at = HEAD;
+    int code = SQLITE_OK;
+    if (!make_file(context, &f)) return SQLITE_OK; /* (SQLite sees that the value failed) */
+    for (sqlite3_int64 row = 1; code == SQLITE_OK && (len = bytes_of(t, row)) > 0; row++) {
+        code = open_row(t, row, false, &bits);
+        if (code == SQLITE_OK) code = sqlite3_blob_read(bits, f.file + at, (int)len, 0);
+        at += len;
+    }
+    code = close_row(bits, code);
+    if (code == SQLITE_OK)
+        result_file(context, &f);
+    else
+        sqlite3_free(f.file);
+    return code;
 }
 
 static int column(sqlite3_vtab_cursor *base, sqlite3_context *context, int number) {
     cursor *c = (cursor *)base;
     table *t = (table *)base->pVtab;
-    filter f = t->f;
-    size_t bytes, at = HEAD;
-    if (number == COLUMN_ITEM && c->item != NULL) sqlite3_result_value(context, c->item);
-    if (number == COLUMN_ITEM) return SQLITE_OK;
-    f.file = sqlite3_malloc64(HEAD + 8 * f.num_words);
-    int code = f.file == NULL ? SQLITE_NOMEM : SQLITE_OK;
-    for (sqlite3_int64 row = 1; code == SQLITE_OK && (bytes = bytes_of(t, row)) > 0; row++) {
-        code = read_row(t, row, 0, bytes, f.file + at);
-        at += bytes;
-    }
-    if (code == SQLITE_OK && number == COLUMN_INFO) result_info(context, t->items, &f);
-    if (code == SQLITE_OK && number == COLUMN_FILE) result_file(context, &f);
-    if (code != SQLITE_OK || number == COLUMN_INFO) sqlite3_free(f.file);
-    return code;
+    if (number == COLUMN_INFO) return result_info(context, t);
+    if (number == COLUMN_FILE) return result_rows(context, t);
+    if (c->item != NULL) sqlite3_result_value(context, c->item);
+    return SQLITE_OK;
 }
 
 static int row_id(sqlite3_vtab_cursor *base, sqlite3_int64 *id) {
-    (void)base, *id = 1;
+    *id = (sqlite3_int64)((cursor *)base)->hash;
     return SQLITE_OK;
 }
 
@@ -509,7 +582,7 @@ static int insert_hash(table *t, uint64_t hash, bool *is_new) {
     size_t from;
     sqlite3_int64 row = row_of(t, hash, &from);
     sqlite3_blob *bits = NULL;
-    int code = open_row(t, row, &bits);
+    int code = open_row(t, row, true, &bits);
     if (code == SQLITE_OK) code = sqlite3_blob_read(bits, line, LINE, (int)from);
     *is_new =
         code == SQLITE_OK && !fastbloom_blocked_insert_hash(line, WORDS, t->f.num_hashes, hash);
@@ -531,9 +604,9 @@ static int insert_file(table *t, sqlite3_value *value) {
     int code = SQLITE_OK;
     /* A damaged row is refused before another one is written, which SQLite may not undo. */
     for (sqlite3_int64 row = 1; code == SQLITE_OK && bytes_of(t, row) > 0; row++)
-        code = open_row(t, row, &bits);
+        code = open_row(t, row, true, &bits);
     for (sqlite3_int64 row = 1; code == SQLITE_OK && (len = bytes_of(t, row)) > 0; row++) {
-        code = open_row(t, row, &bits);
+        code = open_row(t, row, true, &bits);
         if (code == SQLITE_OK) code = sqlite3_blob_read(bits, t->row, (int)len, 0);
         memcpy(t->other, f.file + at, len);
         at += len;
@@ -570,7 +643,8 @@ static int update(sqlite3_vtab *base, int argc, sqlite3_value **argv, sqlite3_in
 /* SQLite opens the table by its new name afterwards. */
 static int rename_table(sqlite3_vtab *base, const char *name) {
     table *t = (table *)base;
-    return run(t->db, "ALTER TABLE %s RENAME TO \"%w_data\"", t->quoted, name);
+    int code = run(t->db, "ALTER TABLE %s RENAME TO \"%w_data\"", t->quoted, name);
+    return code == SQLITE_ERROR ? refuse(t, sqlite3_errmsg(t->db)) : code;
 }
 
 static int is_shadow(const char *suffix) { return sqlite3_stricmp(suffix, "data") == 0; }

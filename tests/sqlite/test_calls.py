@@ -109,14 +109,27 @@ def test_files_are_those_of_the_library(db):
     filter.update(NAMES)
     db.insert(*NAMES)
     assert db.file() == filter.to_bytes()
-    low, high = filter.estimate()
-    rate = float(filter.exact_false_positive_rate()[1])
-    info = json.loads(db.one("SELECT info FROM seen"))
-    assert low <= info["estimate"] <= high and info["rate"] == pytest.approx(rate, rel=1e-5)
     made = db.execute("SELECT bloom(value, 1000, '1/1000') FROM json_each(?)", (json.dumps(NAMES),))
     assert made.fetchone()[0] == filter.to_bytes()
     plain = fastbloom.Filter(1000, "1/1000").to_bytes()
     assert db.refuses("the file's filter isn't blocked", "SELECT bloom_contains(?, 1)", plain)
+
+
+@pytest.mark.parametrize("items, count", [(1, 1), (9, 9), (9, 99), (1000, 7), (50000, 90000)])
+def test_info_is_that_of_the_library(items, count):
+    fastbloom = pytest.importorskip("fastbloom")
+    filter = fastbloom.BlockedFilter(items, "1/1000")
+    db = connect()
+    db.create(items=items)
+    for inserted in {count // 3, count}:
+        names = [str(number) for number in range(inserted)]
+        filter.update(names)
+        db.insert(*names)
+        info = json.loads(db.one("SELECT info FROM seen"))
+        rate = float(filter.exact_false_positive_rate()[1])
+        low, high = filter.estimate()
+        assert low <= info["estimate"] <= high and info["rate"] == pytest.approx(rate, rel=1e-5)
+    db.close()
 
 
 def test_files_are_those_of_summaries(db):
@@ -145,6 +158,14 @@ def test_inserts_tell_what_is_new(db):
     assert db.execute("INSERT OR IGNORE INTO seen(file) SELECT file FROM seen").rowcount == 1
 
 
+def test_returning_has_what_is_left_out(db):
+    """SQLite makes these rows before it inserts."""
+    db.insert("a")
+    returned = db.execute("INSERT OR IGNORE INTO seen VALUES('a'), ('b'), (NULL) RETURNING item")
+    assert returned.fetchall() == [("a",), ("b",), (None,)]
+    assert db.one("SELECT changes()") == 1
+
+
 # What finds 'crab' and 5 alone, among rows of which the others are 'no' and NULL.
 FINDS = [
     "SELECT k FROM t WHERE EXISTS(SELECT 1 FROM seen WHERE item = k)",
@@ -152,8 +173,11 @@ FINDS = [
     "SELECT item FROM seen WHERE item IN (SELECT k FROM t)",
     "SELECT item FROM seen WHERE item IN ('no', 'crab', 5, NULL) ORDER BY 1 DESC",
     "SELECT item FROM seen WHERE item = 'crab' OR item = 5 OR item = 'no'",
+    "SELECT item FROM seen WHERE item IN ('crab', 'no') OR item = 5",
+    "SELECT item FROM seen WHERE item = 'crab' OR item IS 5",
     "SELECT k FROM t JOIN seen ON item = k",
     "SELECT k FROM seen JOIN t ON item = k",
+    "SELECT item FROM (SELECT 'crab' AS a, 5 AS b) JOIN seen ON item = a OR item = b",
     "SELECT k FROM t LEFT JOIN seen ON item = k WHERE item IS NOT NULL",
     "SELECT k FROM t EXCEPT SELECT k FROM t WHERE NOT bloom_in('seen', k)",
     "SELECT k FROM t WHERE bloom_in('seen', k)",
@@ -260,6 +284,12 @@ REFUSED = {
         f"{BLOOM}(items=9, rate='1/9', key='{'0' * 31}g')",
         f"{BLOOM}(items=9, rate='1/9', key='{'0' * 33}')",
         f"{BLOOM}(items=9, rate=1/{'1' * 80})",
+    ],
+    "an argument is repeated": [
+        f"{BLOOM}(items=9, rate='1/9', items=9)",
+        f"{BLOOM}(rate='1/9', items=9, RATE='1/10')",
+        f"{BLOOM}(items=9, rate='1/9', key='{'0' * 32}', key='{'1' * 32}')",
+        f"{BLOOM}(key=random, items=9, rate='1/9', key='{'0' * 32}')",
     ],
     "size too large": [
         f"{BLOOM}(items={2**63 - 1}, rate='1/10')",
@@ -419,15 +449,49 @@ def test_a_name_that_is_taken(db):
     assert db.insert("crab", into="made") == 1
 
 
+# What returns or reads a file in one piece, where it is too long for SQLite.
+TOO_LONG = [
+    "SELECT file FROM seen",
+    "SELECT bloom_in('seen', 1)",
+    "SELECT bloom(1, {}, '1/1000')",
+]
+
+
 def test_a_filter_larger_than_a_value_may_be():
     db = connect()
     db.create(items=10**5)
     db.setlimit(sqlite3.SQLITE_LIMIT_LENGTH, 10000)
     assert db.insert("crab") == 1 and db.has("crab")
-    assert db.refuses("too big", "SELECT file FROM seen")
-    assert db.refuses("too big", "SELECT bloom(1, 100000, '1/1000')")
-    assert db.refuses("too big", "SELECT bloom_in('seen', 1)")
+    assert json.loads(db.one("SELECT info FROM seen"))["estimate"] == 1
+    for sql in TOO_LONG:
+        assert db.refuses("bytes is too big: SQLITE_LIMIT_LENGTH is 10000", sql.format(10**5))
     db.close()
+
+
+@pytest.mark.parametrize("gibibytes, items", [(1, 6 * 10**8), (2, 10**9), (64, 3 * 10**10)])
+def test_a_limit_is_told_before_the_work(tmp_path, gibibytes, items):
+    """The head tells of so many gibibytes, and only the first rows are there."""
+    db = connect(tmp_path / "db")
+    db.create(items=10**5)
+    words = (gibibytes << 27).to_bytes(8, "little").hex()
+    db.execute(
+        "UPDATE seen_data SET bits = CAST(substr(bits, 1, 16) || "
+        f"x'{words}' || substr(bits, 25) AS BLOB) WHERE page = 0"
+    )
+    db.close()
+    db = connect(tmp_path / "db")
+    limit = db.getlimit(sqlite3.SQLITE_LIMIT_LENGTH)
+    for sql in TOO_LONG:
+        assert db.refuses(f"bytes is too big: SQLITE_LIMIT_LENGTH is {limit}", sql.format(items))
+    # It is read row by row, up to the first that isn't whole.
+    assert db.refuses("row 50 of seen_data is damaged", "SELECT info FROM seen")
+    db.close()
+
+
+def test_bloom_in_tells_what_its_table_tells(db):
+    db.execute("DELETE FROM seen_data")
+    with pytest.raises(sqlite3.DatabaseError, match="^bloom: row 1 of seen_data is damaged"):
+        db.one("SELECT bloom_in('seen', 1)")
 
 
 def test_a_large_item(db):

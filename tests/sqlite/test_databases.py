@@ -1,5 +1,6 @@
 """Tables in databases: transactions, connections, copies, damage and crashes."""
 
+import json
 import os
 import random
 import signal
@@ -76,6 +77,80 @@ def test_a_rename_that_is_undone(db):
     assert db.refuses("a filter answers only", 'SELECT * FROM "we ""ird"')
     db.execute('DROP TABLE "we ""ird"')
     assert db.one("SELECT count(*) FROM sqlite_schema") == 0
+
+
+def test_a_rename_that_fails_says_why(db):
+    db.insert("old")
+    db.execute("CREATE TABLE other_data(k)")
+    assert db.refuses("other_data", "ALTER TABLE seen RENAME TO other")
+    assert db.has("old") and db.insert("new") == 1
+    db.execute("DROP TABLE other_data")
+    db.execute("DROP TABLE seen_data")
+    assert db.refuses("no such table: main.seen_data", "ALTER TABLE seen RENAME TO other")
+    db.execute("CREATE VIEW seen_data AS SELECT 1 AS page")
+    assert db.refuses("view seen_data may not be altered", "ALTER TABLE seen RENAME TO other")
+    names = "SELECT group_concat(name) FROM sqlite_schema"
+    assert db.one(names) == "seen,seen_data"
+    db.execute("DROP TABLE seen")
+    assert db.one(names) is None
+
+
+def test_a_shadow_table_of_a_module_that_is_missing(tmp_path):
+    """The filter is dropped, and what isn't its own stays."""
+    db = connect(tmp_path / "db")
+    db.create()
+    db.execute("DROP TABLE seen_data")
+    db.execute("PRAGMA writable_schema = ON")
+    made = "CREATE VIRTUAL TABLE seen_data USING missing(page)"
+    db.execute("INSERT INTO sqlite_schema VALUES('table', 'seen_data', 'seen_data', 0, ?)", (made,))
+    db.close()
+    db = connect(tmp_path / "db")
+    assert db.refuses("row 0 of seen_data is damaged", "SELECT info FROM seen")
+    assert db.refuses("no such module: missing", "ALTER TABLE seen RENAME TO other")
+    db.execute("DROP TABLE seen")
+    assert db.one("SELECT group_concat(name) FROM sqlite_schema") == "seen_data"
+    again = "CREATE VIRTUAL TABLE seen USING bloom(items=9, rate='1/9')"
+    assert db.refuses("seen_data", again)
+    db.close()
+
+
+def test_repeated_arguments_of_a_table_that_is_there(tmp_path):
+    """The last of them counts, as it did when the table was made."""
+    db = connect(tmp_path / "db")
+    db.create()
+    db.insert("a")
+    db.execute("PRAGMA writable_schema = ON")
+    db.execute("UPDATE sqlite_schema SET sql = replace(sql, '(items', '(items=5, items')")
+    db.close()
+    db = connect(tmp_path / "db")
+    assert db.has("a") and db.one("SELECT info ->> 'items' FROM seen") == 1000
+    db.close()
+
+
+def test_statements_that_look_up_at_once():
+    """One goes on where it was when others change the filter, are undone, or are refused."""
+    db = connect()
+    db.create(items=10000)
+    db.insert(*ITEMS)
+    looks = "SELECT value FROM json_each(?) WHERE EXISTS(SELECT 1 FROM seen WHERE item = value)"
+    one, two = (db.execute(looks, (json.dumps(ITEMS),)) for _ in "12")
+    assert (next(one), next(two)) == (("k0",), ("k0",))
+    for place, change in enumerate(("INSERT INTO seen(item) VALUES('new')", "CREATE TABLE t(k)")):
+        db.run(f"BEGIN; {change}")
+        assert next(one) == (f"k{2 * place + 1}",)
+        db.execute("ROLLBACK")
+        assert next(one) == (f"k{2 * place + 2}",) and not db.has("new")
+    assert len(two.fetchall()) == len(ITEMS) - 1
+    db.execute("DELETE FROM seen_data WHERE page = 2")
+    gone = [it for it in ITEMS if db.refuses("row 2 of", "SELECT 1 FROM seen WHERE item = ?", it)]
+    there = [it for it in ITEMS if it not in gone]
+    two = db.execute(looks, (json.dumps(there),))
+    assert next(two) == (there[0],) and gone
+    assert db.refuses("row 2 of", looks, json.dumps(gone))
+    assert two.fetchall() == [(it,) for it in there[1:]]
+    one.close()
+    db.execute("DROP TABLE seen")
+    db.close()
 
 
 def test_a_statement_that_fails_midway_is_undone(db):

@@ -18,7 +18,7 @@ use std::marker::Model;
 /// A blocked Bloom filter that threads share: each call takes `&self`.
 ///
 /// No call takes a lock or waits for a thread. An insert's `|` on a word is tried again only where
-/// another thread changed that word in between, so some thread always gets on (lock-free).
+/// another thread changed that word in between.
 ///
 /// Contracts see the vector of its words, its number of hashes and its hasher. Each call is made of
 /// atomic operations on single words, so calls of several threads may come between one another's.

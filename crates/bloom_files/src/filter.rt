@@ -92,6 +92,8 @@ pub trait FilterFile: Drop {
     final fn write_file<W: Write>(&self, output: &mut W) -> io::Result<()>
     where
         Self: Sized,
+        // What is written reads back.
+        ensures file { IsFileOf layout (file_of layout (seen self.now)) (seen self.now) }
         ensures whole { OnOk result (Appends (W.contents output.old) (W.contents output.new)
             (file_of layout (seen self.now))) }
         ensures part { OnErr result (AppendsPart (file_of layout (seen self.now))

@@ -30,7 +30,7 @@ part_now f = record {
   high = positives_high (num_bits_of f) f.hashes (ones_of f);
 }
 
--- the mean rate of a filter's shape, once this many items are in it
+-- the mean rate of a filter's shape after the draws of this many items, whatever bits they set
 abbrev pub part_after : {S : Type 0} → Filter S → ℕ → Part
 part_after f items = record {
   found = false_positives (num_bits_of f) (f.hashes * items) f.hashes;
@@ -69,11 +69,13 @@ pub record BoundsAny (parts : List Part) (bracket : Bracket) : Type 0 where
 abbrev pub parts_now : {S : Type 0} → Growing S → List Part
 parts_now g = map part_now (g.older ++ g.newest ∷ [])
 
--- the mean rates of these filters, which stand behind i others, each once it took its room
+-- the mean rates of these filters, which stand behind i others, each after as many draws as its
+-- room; new items set more bits
 abbrev pub parts_full : {S : Type 0} → ℕ → ℕ → List (Filter S) → List Part
 parts_full room i [] = []
 parts_full room i (f ∷ later) = part_after f (room_at room i) ∷ parts_full room (i + 1) later
 
--- the mean rates of all filters, each once it took as many new items as it did
+-- the mean rates of all filters, each after as many draws as it took new items, which set more
+-- bits
 abbrev pub parts_grown : {S : Type 0} → Growing S → List Part
 parts_grown g = parts_full g.plan.room 0 g.older ++ part_after g.newest g.taken ∷ []

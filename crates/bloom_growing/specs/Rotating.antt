@@ -83,6 +83,7 @@ RecentFoundLaw S = (old new : Rotating S) (earlier later : List ℕ) (hash : ℕ
 abbrev pub both_now : {S : Type 0} → Rotating S → List Part
 both_now r = part_now r.older ∷ part_now r.newer ∷ []
 
--- the mean rates of both filters, each once it took as many new items as it did
+-- the mean rates of both filters, each after as many draws as it took new items, which set more
+-- bits
 abbrev pub both_taken : {S : Type 0} → Rotating S → List Part
 both_taken r = part_after r.older (older_taken r) ∷ part_after r.newer r.taken ∷ []

@@ -68,7 +68,8 @@ pub extern "C" fn fastbloom_blocked_insert_hash(
     insert_hash(words, num_hashes.max(1), hash)
 }
 
-/// Whether all positions of a hash are set: false means that it was never inserted.
+/// Whether all positions of a hash are set: false means that it wasn't inserted since one of
+/// them was last cleared.
 #[inline(always)]
 #[unsafe(no_mangle)]
 pub extern "C" fn fastbloom_blocked_contains_hash(words: &[u64], num_hashes: u32, hash: u64) -> bool

@@ -92,6 +92,13 @@ pub(crate) fn tell_the_same(pair: &Pair) -> bool {
         & (plain.expected_false_pos(9) == shared.expected_false_pos(9))
 }
 
+/// Whether this many items are expected to lead to a rate with these ends.
+pub(crate) fn expects(pair: &Pair, items: usize, low: u64, high: u64) -> bool {
+    let rate = pair.plain.expected_false_pos(items);
+    let has_ends = (rate.low() == low) & (rate.high() == high);
+    has_ends & (pair.shared.expected_false_pos(items) == rate)
+}
+
 /// Whether these are the words that an iterator gives, where a hash is inserted behind the first: a
 /// word is loaded when it is asked for.
 pub(crate) fn insert_between(pair: &mut Pair, hash: u64, first: u64, second: u64) -> bool {

@@ -1,11 +1,13 @@
 //! Generic calls at concrete types: what callers learn of slices and vectors, lists that name other
-//! filters, and other hashers.
+//! filters, other hashers, and builders that are compared.
 ghost use Rattle.std.specs.Prelude.{length};
 ghost use Rattle.fastbloom.specs.Builders.{sized_filter};
 ghost use Rattle.fastbloom.specs.Replies.{InsertsItems};
 ghost use Rattle.fastbloom.specs.SourceHash.{source_hash_of};
 
-use fastbloom::{AtomicBloomFilter, BloomFilter, BuilderWithBits, Command, FilterError, Rate};
+use fastbloom::{
+    AtomicBloomFilter, BloomFilter, BuilderWithBits, Command, DefaultHasher, FilterError, Rate,
+};
 use std::alloc::Global;
 use std::hash::{BuildHasher, BuildHasherDefault, Hash};
 
@@ -119,9 +121,24 @@ fn hasher_goes_in(alloc: Global) -> Result<bool, FilterError> {
     Ok(hashes_as_rust(&filter))
 }
 
+/// Whether rates are equal by their value, and builders by their rates, whatever their hashers. It
+/// takes no memory.
+pub(crate) fn rates_are_compared() -> Result<bool, FilterError> {
+    let (half, same, third) = (Rate::new(1, 2)?, Rate::new(2, 4)?, Rate::new(1, 3)?);
+    let plain = BloomFilter::with_false_pos(half).seed(&1);
+    let is_plain = (plain == BloomFilter::with_false_pos(same).seed(&2))
+        & (plain != BloomFilter::with_false_pos(third).seed(&1));
+    let shared = AtomicBloomFilter::with_false_pos(half).seed(&1);
+    let other = AtomicBloomFilter::with_false_pos(same).hasher(DefaultHasher::seeded(&[2; 16]));
+    let is_shared = (shared == other)
+        & (shared != AtomicBloomFilter::with_false_pos(third).seed(&1));
+    Ok((half == same) & (half != third) & is_plain & is_shared)
+}
+
 #[test]
 fn generic_calls_hold_at_concrete_types(rt: HostRuntime) {
     assert!(rt; matches!(items_go_in(rt.alloc()), Ok(true)));
     assert!(rt; matches!(list_names_filters(rt.alloc()), Ok(true)));
     assert!(rt; matches!(hasher_goes_in(rt.alloc()), Ok(true)));
+    assert!(rt; matches!(rates_are_compared(), Ok(true)));
 }

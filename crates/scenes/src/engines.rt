@@ -1,5 +1,5 @@
 //! Tests of the engines of the programs, over readers, writers and sieves that fail or are odd.
-mod bloom;
+pub(crate) mod bloom;
 mod duplicates;
 pub(crate) mod faulty;
 mod summaries;

@@ -9,7 +9,7 @@ use std::sync::atomic::{AtomicU64, Ordering};
 use std::thread::{Threads, yield_now};
 
 /// A gate that counts the workers, and keeps a bit for the number of each of the first 64. Each of
-/// these looks for those that are awaited, for at most 1,000,000 turns.
+/// these looks for those that are awaited, for at most 10,000,000 turns.
 #[derive(Drop)]
 pub(crate) struct Watching {
     pub(crate) awaited: u64,
@@ -47,7 +47,7 @@ impl Gate for Watching {
             return;
         }
         self.numbers.fetch_or(1 << worker, Ordering::SeqCst);
-        'turns: for _ in 0..1_000_000 {
+        'turns: for _ in 0..10_000_000 {
             if self.numbers.load(Ordering::SeqCst) & self.awaited == self.awaited {
                 self.met.fetch_add(1, Ordering::SeqCst);
                 return;

@@ -30,6 +30,8 @@ fn holds(alloc: Global, pair: &mut Pair, line: &Line) -> Result<bool, Refused> {
         Op::Words(words) => Ok(*said & have_words(pair, words)),
         Op::Ones(ones) => Ok(*said & answers::has_ones(pair, *ones)),
         Op::Estimates => Ok(*said & answers::tell_the_same(pair)),
+        Op::Expects(items, low, high) => Ok(*said & answers::expects(pair, *items, *low, *high)),
+        Op::HasData(text) => Ok(*said & memory::has_data(alloc, pair, text)),
         Op::InsertBetween(hash, first, second) => {
             Ok(*said & answers::insert_between(pair, *hash, *first, *second))
         }

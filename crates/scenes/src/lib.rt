@@ -1,15 +1,21 @@
-//! Tests of the filters, of their parts, and of the programs' engines: what no contract says.
+//! Tests of the filters, of their parts, and of the programs' engines: values from outside, and
+//! what no contract says.
 //!
-//! - `scripted`, `rows`, `making`, `follow`: scripted tests. A row says how a plain and a shared
-//!   filter are made, and what both return from the same calls; after each call all words are
-//!   compared.
-//! - `hashing`, `numbers`, `estimates`, `steps`: values from outside, or worked out by hand.
+//! - `scripted`, `rows`: scripted tests, by tables. A row says how a plain and a shared filter are
+//!   made, and what both return from the same calls. `follow` makes them (`making`) and their calls
+//!   (`answers`, and `memory` for those that take some), and compares all words after each.
+//! - `hashing`, `numbers`, `steps`: hashers, arithmetic and word steps at values from outside, or
+//!   worked out by hand.
+//! - `concrete`: generic calls at concrete types.
+//! - `nothing`, `overstated`: a hasher and an iterator that are odd.
 //! - `blocked`, `growing`, `rotating`, `seated`, `fills`, `files`: one kind of filter, or its
 //!   files.
 //! - `threads`: threads that share a filter.
 //! - `room`: each request for memory refused in turn, by `dev/starve`.
 //! - `engines`: the programs' engines over readers, writers and sieves that fail or are odd.
+//! - `texts`: the texts of all errors.
 //! - `used`: the examples of the pages.
+//! - `telling`, `drawn`: how a test tells which row is wrong, and hashes for tests.
 #![tactic(auto)]
 
 // A scripted test: its name, how its filters are made, and its lines.

@@ -1,7 +1,9 @@
 //! How both filters of a scripted test are made, and whether they are alike.
+use crate::memory::data_of;
 use crate::scripted::{Make, Size};
 use fastbloom::{
-    AtomicBloomFilter, AtomicBuilderWithBits, BloomFilter, BuilderWithBits, FilterError, Rate,
+    AtomicBloomFilter, AtomicBuilderWithBits, BloomFilter, BuilderWithBits, FilterData,
+    FilterError, Rate,
 };
 use std::alloc::Global;
 
@@ -61,6 +63,7 @@ fn plain_by(
         Size::Hashes(hashes) => builder.hashes(*hashes),
         Size::Expected(number) => builder.expected_items(*number),
         Size::Numbers(numbers) => builder.items(*numbers),
+        Size::Texts(texts) => builder.items(*texts),
     })
 }
 
@@ -75,6 +78,15 @@ fn plain_at(alloc: Global, rate: Rate, seed: &u128, size: &Size) -> Result<Bloom
             )
         }
         Size::Numbers(numbers) => named("items by rate", builder.items(alloc, *numbers)),
+        Size::Texts(texts) => named("items by rate", builder.items(alloc, *texts)),
+    }
+}
+
+/// The plain filter of data, if these were made.
+pub(crate) fn plain_from(form: Result<FilterData, Refused>) -> Result<BloomFilter, Refused> {
+    match form {
+        Ok(form) => named("from_data", BloomFilter::from_data(form)),
+        Err(refused) => Err(refused),
     }
 }
 
@@ -86,6 +98,7 @@ pub(crate) fn plain_of(alloc: Global, make: &Make) -> Result<BloomFilter, Refuse
             plain_by(builder, &0, size)
         }
         Make::Words(words, seed, size) => plain_by(plain_words(alloc, words), seed, size),
+        Make::Data(text) => plain_from(named(THE_TEST, data_of(alloc, text))),
         Make::Rate(num, den, seed, size) => {
             plain_at(
                 alloc,
@@ -118,6 +131,7 @@ fn shared_by(
             )
         }
         Size::Numbers(numbers) => named("shared items", builder.items(alloc, *numbers)),
+        Size::Texts(texts) => named("shared items", builder.items(alloc, *texts)),
     }
 }
 
@@ -135,6 +149,21 @@ fn shared_at(
             builder.expected_items(alloc, *number),
         ),
         Size::Numbers(numbers) => named("shared items by rate", builder.items(alloc, *numbers)),
+        Size::Texts(texts) => named("shared items by rate", builder.items(alloc, *texts)),
+    }
+}
+
+/// The shared filter of data, if these were made.
+pub(crate) fn shared_from(
+    alloc: Global,
+    form: Result<FilterData, Refused>,
+) -> Result<AtomicBloomFilter, Refused> {
+    match form {
+        Ok(form) => named(
+            "shared from_data",
+            AtomicBloomFilter::from_data(alloc, form),
+        ),
+        Err(refused) => Err(refused),
     }
 }
 
@@ -146,6 +175,7 @@ pub(crate) fn shared_of(alloc: Global, make: &Make) -> Result<AtomicBloomFilter,
             shared_by(alloc, named("shared with_num_bits", builder), &0, size)
         }
         Make::Words(words, seed, size) => shared_by(alloc, shared_words(alloc, words), seed, size),
+        Make::Data(text) => shared_from(alloc, named(THE_TEST, data_of(alloc, text))),
         Make::Rate(num, den, seed, size) => {
             shared_at(
                 alloc,

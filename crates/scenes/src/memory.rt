@@ -3,7 +3,7 @@ mod data;
 
 use crate::making::{Pair, Refused, are_alike, have_words, named, pair_of, paired};
 use crate::scripted::{Make, Size};
-pub(crate) use data::cross;
+pub(crate) use data::{cross, data_of, has_data};
 use fastbloom::{AtomicBloomFilter, BloomFilter, Command};
 use std::alloc::Global;
 

@@ -1,4 +1,4 @@
-//! Numbers of hashes, sizes, rates and brackets at values from outside.
+//! Numbers of hashes, sizes, rates, brackets and refusals at values from outside.
 use crate::telling::tell_row;
 use fastbloom::{
     Bracket, FilterError, Rate, expected_density, expected_false_pos, false_pos_bounds,
@@ -15,12 +15,16 @@ enum Row {
     Density(u32, usize, usize, u64, u64),
     // A power of the density of these hashes, bits and items, and its ends.
     Power(u32, u32, usize, usize, u64, u64),
+    // A power of a density between two ends, and its ends.
+    PowerOf(u32, u64, u64, u64, u64),
     // Hashes, bits, items, and the ends of the mean rate of false positives.
     Mean(u32, usize, usize, u64, u64),
     // Hashes, bits, set bits, and the ends of the rate.
     Ones(u32, usize, usize, u64, u64),
     // Bits and set bits, and the ends of the rate of a test by them or by half of 64 bits.
     Either(usize, usize, u64, u64),
+    // A refusal, and its number.
+    Code(FilterError, u8),
 }
 
 const ROWS: &'static [Row] = &[
@@ -72,6 +76,7 @@ const ROWS: &'static [Row] = &[
     Row::Power(2, 1, 64, 1, 2251799813685248, 2251799813685248),
     Row::Power(7, 7, 1024, 100, 67513609598153215, 67513609598153226),
     Row::Power(0, 2, 64, 0, 9223372036854775808, 9223372036854775808),
+    Row::PowerOf(0, 0, 0, 9223372036854775808, 9223372036854775808),
     // Computed apart with Python's whole numbers. Of two bits after two draws 10 of 16 pairs are a
     // false positive, which is 5764607523034234880 units.
     Row::Mean(2, 2, 1, 5188146770730811392, 6088866696204910592),
@@ -88,6 +93,14 @@ const ROWS: &'static [Row] = &[
     // their upper ends, or of all.
     Row::Either(3, 1, 4611686018427387904, 7686143364045646507),
     Row::Either(64, 48, 6917529027641081856, 9223372036854775808),
+    Row::Code(FilterError::ZeroBits, 1),
+    Row::Code(FilterError::EmptyWords, 2),
+    Row::Code(FilterError::TooManyWords, 3),
+    Row::Code(FilterError::ZeroRate, 4),
+    Row::Code(FilterError::SizeOverflow, 5),
+    Row::Code(FilterError::Memory, 6),
+    Row::Code(FilterError::HashCount, 7),
+    Row::Code(FilterError::Worker, 8),
 ];
 
 // Whether a bracket has these ends.
@@ -111,6 +124,12 @@ fn power_of(exponent: u32, hashes: u32, bits: usize, items: usize) -> Bracket {
     expected_false_pos(exponent, expected_density(hashes, bits.max(1), items))
 }
 
+// The power of a density between two ends. No row has a lower end above the upper one.
+fn power_between(exponent: u32, low: u64, high: u64) -> Bracket {
+    let high = high.min(1 << 63);
+    expected_false_pos(exponent, Bracket::new(low.min(high), high))
+}
+
 // The rate of a test by this many set bits or by half of 64 bits.
 fn either_of(bits: usize, ones: usize) -> Bracket {
     false_pos_of_either(rate_of(1, bits, ones), rate_of(1, 64, 32))
@@ -127,6 +146,9 @@ fn holds(row: &Row) -> bool {
         Row::Power(exponent, hashes, bits, items, low, high) => {
             has_ends(power_of(exponent, hashes, bits, items), low, high)
         }
+        Row::PowerOf(exponent, least, most, low, high) => {
+            has_ends(power_between(exponent, least, most), low, high)
+        }
         Row::Mean(hashes, bits, items, low, high) => {
             has_ends(false_pos_bounds(hashes, bits.max(1), items), low, high)
         }
@@ -134,6 +156,7 @@ fn holds(row: &Row) -> bool {
             has_ends(rate_of(hashes, bits, ones), low, high)
         }
         Row::Either(bits, ones, low, high) => has_ends(either_of(bits, ones), low, high),
+        Row::Code(refusal, code) => refusal.code() == code,
     }
 }
 

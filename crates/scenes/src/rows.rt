@@ -11,10 +11,11 @@ mod sets;
 
 /// Every scripted test, by tables. A check takes longer for one long table than for two of half its
 /// length, so each table is of one subject.
-pub(crate) fn all() -> [&'static [ScriptedTest]; 6] {
+pub(crate) fn all() -> [&'static [ScriptedTest]; 7] {
     [
         by_hash::HASHES,
         by_hash::CALLS,
+        by_hash::MADE,
         sets::MEETINGS,
         sets::COMPARISONS,
         items::ITEMS,
@@ -43,10 +44,14 @@ macro_rules! at_half {
 }
 
 /// What is asked for, and why both filters are refused: no bits, more than 2^58 - 1 words, and
-/// 2^61 - 8 bytes, which no machine has. Of the last three sizes the first is 2^64 - 8 bits, and
-/// for one item more it is 2^64.
+/// 2^61 - 8 bytes, which no machine has. Of the sizes at a half the first is 2^64 - 8 bits, and for
+/// one item more it is 2^64. Data are refused for no words before they are for 2^32 hashes.
 pub(crate) const REFUSALS: &'static [(Make, FilterError)] = &[
     (Make::Bits(0, Hashes(1)), FilterError::ZeroBits),
+    (
+        Make::Bits(18446744073709551615, Hashes(1)),
+        FilterError::TooManyWords,
+    ),
     (
         Make::Bits(18446744073709551553, Hashes(1)),
         FilterError::TooManyWords,
@@ -61,4 +66,16 @@ pub(crate) const REFUSALS: &'static [(Make, FilterError)] = &[
     (at_half!(12786308645202655226), FilterError::TooManyWords),
     (at_half!(12786308645202655227), FilterError::SizeOverflow),
     (at_half!(18446744073709551615), FilterError::SizeOverflow),
+    (
+        Make::Data(r#"{"bits":{"bits":[]},"num_hashes_minus_one":1,"k0":0,"k1":0}"#),
+        FilterError::EmptyWords,
+    ),
+    (
+        Make::Data(r#"{"bits":{"bits":[]},"num_hashes_minus_one":4294967295,"k0":0,"k1":0}"#),
+        FilterError::EmptyWords,
+    ),
+    (
+        Make::Data(r#"{"bits":{"bits":[0]},"num_hashes_minus_one":4294967295,"k0":0,"k1":0}"#),
+        FilterError::HashCount,
+    ),
 ];

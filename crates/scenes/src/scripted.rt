@@ -17,6 +17,8 @@ pub(crate) enum Size {
     Expected(usize),
     /// These numbers, which go in.
     Numbers(&'static [u64]),
+    /// These texts, which go in.
+    Texts(&'static [&'static str]),
 }
 
 /// What the filters are made of. The key is that of a seed, or else the zero key.
@@ -28,6 +30,8 @@ pub(crate) enum Make {
     Words(&'static [u64], u128, Size),
     /// The two parts of a rate, and a seed.
     Rate(u64, u64, u128, Size),
+    /// Data, as JSON text.
+    Data(&'static str),
 }
 
 /// A call on both filters, or a question about them. Where another filter is needed, it has the
@@ -75,6 +79,10 @@ pub(crate) enum Op {
     Ones(usize),
     /// Both tell the same number of items, and the same rates.
     Estimates,
+    /// `expected_false_pos` of this many items has these two ends, in units of 2^-63.
+    Expects(usize, u64, u64),
+    /// `to_data` gives the data of this JSON text.
+    HasData(&'static str),
     /// The iterator gives these two words where the hash is inserted behind the first.
     InsertBetween(u64, u64, u64),
 }

@@ -86,6 +86,16 @@ const SEATINGS: &'static [Seating] = &[
         closed: &[0, 1 << 32, 0],
     },
     Seating {
+        name: "no passes count as one",
+        words: &[0],
+        num_hashes: 2,
+        passes: 0,
+        first: &[],
+        second: &[],
+        met: &[],
+        closed: &[0],
+    },
+    Seating {
         name: "no hashes and no passes count as one",
         words: &[0],
         num_hashes: 0,
@@ -142,6 +152,7 @@ fn answer_both(
 fn is_kept(alloc: Global, row: &Seating) -> Result<bool, FilterError> {
     let words = row.words.to_vec(alloc)?;
     let (filter, mut passes) = SeatedBloomFilter::new(alloc, words, row.num_hashes, row.passes)?;
+    let are_all = passes.len() == row.passes.max(1);
     let Some(mut last) = passes.pop() else {
         unreachable!()
     };
@@ -149,7 +160,7 @@ fn is_kept(alloc: Global, row: &Seating) -> Result<bool, FilterError> {
         Some(mut first) => answer_both(&filter, &mut first, &mut last, row),
         None => answers(&filter, &mut last, row.first),
     };
-    Ok(is_right & are_words(filter.close(alloc, last), row.closed))
+    Ok(are_all & is_right & are_words(filter.close(alloc, last), row.closed))
 }
 
 // Whether a filter answers and ends as its row says. If not, its name is reported.

@@ -51,7 +51,8 @@ impl AnyFilter {
         }
     }
 
-    /// Whether all positions of a hash are set: false means that it was never inserted.
+    /// Whether all positions of a hash are set: false means that it wasn't inserted since one of
+    /// them was last cleared.
     pub fn contains_hash(&self, hash: u64) -> bool
         ensures { result ≡ has_hash self.now hash }
     {

@@ -29,9 +29,9 @@ class Shared(Base[Kind], Generic[Kind, OfWords]):
 
     Each call is made of atomic operations on single words. It takes no lock, waits for no thread,
     and lets the interpreter's lock go while it runs. An add's `|` on a word is tried again only
-    where another thread changed that word in between, so some thread always gets on. The words are
-    memory of the filter's own, which processes share that are forked of this one; or a buffer, as
-    of `multiprocessing.shared_memory`, by `over`; or a file, by `map`. While any process uses such
+    where another thread changed that word in between. The words are memory of the filter's own,
+    which processes share that are forked of this one; or a buffer, as of
+    `multiprocessing.shared_memory`, by `over`; or a file, by `map`. While any process uses such
     words, nothing but shared filters touches them.
     """
 

@@ -27,7 +27,7 @@ impl AsRef<[AtomicU64]> for AtomicLines {
 /// A blocked filter that threads share: each call takes `&self`.
 ///
 /// No call takes a lock or waits for a thread. An insert's `|` on a word is tried again only where
-/// another thread changed that word in between, so some thread always gets on (lock-free).
+/// another thread changed that word in between.
 ///
 /// Each call is made of atomic operations on the words of one line, so no insert is lost. The lines
 /// are the filter's own; or words that something else lends: a slice, as over a mapped file, or an

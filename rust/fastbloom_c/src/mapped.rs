@@ -204,8 +204,8 @@ macro_rules! mapped_calls {
                     .map($mapped)
             }
 
-            /// Whether an item is contained. False: it was never inserted. True may be a false
-            /// positive.
+            /// Whether an item is contained. False: it wasn't inserted since the last `clear` or
+            /// `intersect`. True may be a false positive.
             ///
             /// ```
             #[doc = $use]

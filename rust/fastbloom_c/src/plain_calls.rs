@@ -38,8 +38,8 @@ macro_rules! plain_calls {
                 $calls::insert(words, self.num_hashes, &self.key, val.as_ref())
             }
 
-            /// Whether an item is contained. False: it was never inserted. True may be a false
-            /// positive.
+            /// Whether an item is contained. False: it wasn't inserted since the last `clear` or
+            /// `intersect`. True may be a false positive.
             ///
             /// ```
             #[doc = $use]

@@ -9,7 +9,7 @@ use std::sync::atomic::AtomicU64;
 /// A set of texts and bytes that threads share: each call takes `&self`.
 ///
 /// No call takes a lock or waits for a thread. An insert's `|` on a word is tried again only where
-/// another thread changed that word in between, so some thread always gets on (lock-free).
+/// another thread changed that word in between.
 ///
 /// Each call is made of atomic operations on single words, so no insert is lost, and calls of several
 /// threads may come between one another's. The words are a box of the filter's own; or anything else

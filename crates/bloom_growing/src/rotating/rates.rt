@@ -15,9 +15,12 @@ impl RotatingFilter {
         if self.turns == 0 { 0 } else { self.room }
     }
 
-    /// Two bounds of the mean rate of false positives of both filters together, each once it took
-    /// as many new items as it did. The upper bound is the sum of theirs, and the lower one the
-    /// greater, as for a filter that grows.
+    /// Two bounds of the mean rate of false positives of both filters together, each after as many
+    /// draws as it took new items. Only items that set a bit are new, so more bits are set than by
+    /// as many draws, and the rate can lie above both bounds.
+    ///
+    /// The upper bound is the sum of those of both filters, and the lower one the greater, as for a
+    /// filter that grows.
     pub fn false_pos_bounds(&self) -> Bracket
         ensures { BoundsAny (both_taken self.now) result }
     {

@@ -23,7 +23,7 @@ use std::marker::Model;
 /// threads the words keep `SeatedRule`.
 ///
 /// No call takes a lock or waits for a thread. An insert's `|` on a word is tried again only where
-/// another thread changed that word in between, so some thread always gets on (lock-free).
+/// another thread changed that word in between.
 #[derive(Drop)]
 pub struct SeatedBloomFilter {
     table: FilterTable,

@@ -13,8 +13,8 @@ fn filter_of(alloc: Global, words: usize, hashes: u32) -> Result<BloomFilter, Fi
     Ok(BloomFilter::from_vec(vec![in alloc; 0u64; words]?)?.hashes(hashes))
 }
 
-// The words after the program's name.
-fn words_of(alloc: Global, given: &[&'static str]) -> Result<Vec<String>, AllocError> {
+/// The words after the program's name.
+pub(crate) fn words_of(alloc: Global, given: &[&'static str]) -> Result<Vec<String>, AllocError> {
     let mut words = Vec::new(alloc);
     for word in given {
         words.push(word.to_string(alloc)?)?;

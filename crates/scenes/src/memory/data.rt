@@ -1,16 +1,27 @@
 //! What both filters return from calls with their data.
-use crate::making::{Pair, Refused, THE_TEST, named};
-use fastbloom::{AtomicBloomFilter, BloomFilter, FilterData, FilterError};
+use crate::making::{Pair, Refused, THE_TEST, named, plain_from, shared_from};
+use fastbloom::{FilterData, FilterError};
 use std::alloc::Global;
+
+/// The data of a JSON text, or `Memory` where it isn't read.
+pub(crate) fn data_of(alloc: Global, text: &str) -> Result<FilterData, FilterError> {
+    match serde_json::from_str(alloc, text) {
+        Ok(form) => Ok(form),
+        Err(_error) => Err(FilterError::Memory),
+    }
+}
+
+/// Whether both filters give the data of a JSON text.
+pub(crate) fn has_data(alloc: Global, pair: &Pair, text: &str) -> bool {
+    let form = data_of(alloc, text);
+    form.is_ok() & (pair.plain.to_data(alloc) == form) & (pair.shared.to_data(alloc) == form)
+}
 
 // The data after a way through JSON text.
 fn through_text(alloc: Global, form: &FilterData) -> Result<FilterData, FilterError> {
-    let Ok(text) = serde_json::to_string(alloc, form) else {
-        return Err(FilterError::Memory);
-    };
-    match serde_json::from_str(alloc, text.as_str()) {
-        Ok(form) => Ok(form),
-        Err(_error) => Err(FilterError::EmptyWords),
+    match serde_json::to_string(alloc, form) {
+        Ok(text) => data_of(alloc, text.as_str()),
+        Err(_error) => Err(FilterError::Memory),
     }
 }
 
@@ -27,42 +38,13 @@ fn sent(
     Ok(form)
 }
 
-// The shared filter of the plain one's data.
-fn shared_from(
-    alloc: Global,
-    plain: &BloomFilter,
-    by_text: bool,
-) -> Result<AtomicBloomFilter, Refused> {
-    match sent(alloc, named("to_data", plain.to_data(alloc)), by_text) {
-        Ok(form) => named(
-            "shared from_data",
-            AtomicBloomFilter::from_data(alloc, form),
-        ),
-        Err(refused) => Err(refused),
-    }
-}
-
-// The plain filter of the shared one's data.
-fn plain_from(
-    alloc: Global,
-    shared: &AtomicBloomFilter,
-    by_text: bool,
-) -> Result<BloomFilter, Refused> {
-    match sent(
-        alloc,
-        named("shared to_data", shared.to_data(alloc)),
-        by_text,
-    ) {
-        Ok(form) => named("from_data", BloomFilter::from_data(form)),
-        Err(refused) => Err(refused),
-    }
-}
-
 /// Each filter goes on as it is made of the other's data, by JSON text if that is said. They are
 /// alike then where these were.
 pub(crate) fn cross(alloc: Global, pair: &mut Pair, by_text: bool) -> Result<bool, Refused> {
-    let shared = shared_from(alloc, &pair.plain, by_text)?;
-    match plain_from(alloc, &pair.shared, by_text) {
+    let form = named("to_data", pair.plain.to_data(alloc));
+    let shared = shared_from(alloc, sent(alloc, form, by_text))?;
+    let form = named("shared to_data", pair.shared.to_data(alloc));
+    match plain_from(sent(alloc, form, by_text)) {
         Ok(plain) => {
             *pair = Pair { plain, shared };
             Ok(true)

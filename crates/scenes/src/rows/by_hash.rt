@@ -1,10 +1,10 @@
 //! Filters of words, by hash: replies, words, lists, copies and estimates.
 use crate::scripted::Op::{
-    Build, Clear, Clone, Compare, Contains, Cross, Estimates, Insert, InsertBetween, Ones, Replay,
-    Show, Take, Words,
+    Build, Clear, Clone, Compare, Contains, Cross, Estimates, Expects, HasData, Insert,
+    InsertBetween, InsertItem, Ones, Replay, Show, Take, Words,
 };
 use crate::scripted::Size::{Expected, Hashes, Numbers};
-use crate::scripted::{Make, ScriptedTest};
+use crate::scripted::{Item, Make, ScriptedTest};
 
 // A hash is new, is found once it went in, and sets these bits alone.
 macro_rules! goes_in {
@@ -80,15 +80,24 @@ pub(super) const CALLS: &'static [ScriptedTest] = &[
         (Take, true),
         (Words(&[0, 0, 0]), true),
     ),
-    // No hashes count as one. The logarithm of 2 times 64 is 44.4, and one is halved nearly ten
-    // times to come to a thousandth.
+];
+
+/// Filters that are made, copied, and turned to data.
+pub(super) const MADE: &'static [ScriptedTest] = &[
+    // No hashes count as one. The logarithm of 2 times 64 is 44.4, and one is halved once to come
+    // to a half, nearly ten times to come to a thousandth, and not at all for 3/2.
     scripted_test!(
         "both kinds of builder give the same shape",
         Make::Words(&[5, 6], 0, Hashes(0)),
         (Build(Make::Words(&[5, 6], 0, Hashes(0)), 128, 1), true),
+        (Build(Make::Bits(1, Hashes(0)), 64, 1), true),
+        (Build(Make::Bits(65, Hashes(1)), 128, 1), true),
         (Build(Make::Bits(1202, Hashes(4)), 1216, 4), true),
+        (Build(Make::Bits(512 * 1000, Hashes(4)), 512000, 4), true),
         (Build(Make::Bits(64, Expected(0)), 64, 44), true),
         (Build(Make::Bits(64, Numbers(&[1, 2])), 64, 22), true),
+        (Build(Make::Rate(1, 2, 0, Expected(0)), 64, 44), true),
+        (Build(Make::Rate(3, 2, 0, Expected(1000)), 64, 1), true),
         (
             Build(Make::Rate(1, 1000, 0, Expected(1000)), 14400, 10),
             true
@@ -97,5 +106,67 @@ pub(super) const CALLS: &'static [ScriptedTest] = &[
             Build(Make::Rate(1, 1000, 42, Numbers(&[1, 2])), 64, 22),
             true
         ),
+    ),
+    // The logarithm of 2 times 1216 / 4 is 210.7.
+    scripted_test!(
+        "an item is new to a filter for four",
+        Make::Bits(1202, Expected(4)),
+        (Build(Make::Bits(1202, Expected(4)), 1216, 211), true),
+        (InsertItem(Item::Number(5)), false),
+    ),
+    scripted_test!(
+        "a copy of an empty filter goes its own way",
+        Make::Bits(4, Hashes(4)),
+        (Clone, true),
+        (Words(&[0]), true),
+    ),
+    scripted_test!(
+        "a copy of a word of zeros goes its own way",
+        Make::Words(&[0], 0, Hashes(4)),
+        (Clone, true),
+        (Words(&[0]), true),
+    ),
+    // One bit of 64 is a 64th of 2^63 units.
+    scripted_test!(
+        "one hash of one item sets one bit",
+        Make::Words(&[0], 0, Hashes(1)),
+        (Expects(1, 144115188075855872, 144115188075855872), true),
+    ),
+    scripted_test!(
+        "two hashes of one item set two bits or one",
+        Make::Words(&[0], 0, Hashes(2)),
+        (Expects(1, 8867011522199552, 8867011522199552), true),
+    ),
+    scripted_test!(
+        "no item sets no bit",
+        Make::Words(&[0], 0, Hashes(3)),
+        (Expects(0, 0, 0), true),
+    ),
+    // The last of the sixteen bytes of the seed is 42, and so the highest of the key's second word.
+    scripted_test!(
+        "data have the words, the hashes and the key",
+        Make::Words(&[5], 42, Hashes(2)),
+        (
+            HasData(
+                r#"{"bits":{"bits":[5]},"num_hashes_minus_one":1,"k0":0,"k1":3026418949592973312}"#
+            ),
+            true
+        ),
+        (Words(&[5]), true),
+    ),
+    scripted_test!(
+        "a filter is made of data",
+        Make::Data(r#"{"bits":{"bits":[5]},"num_hashes_minus_one":1,"k0":0,"k1":0}"#),
+        (Compare(&[5], 2, true), true),
+        (
+            HasData(r#"{"bits":{"bits":[5]},"num_hashes_minus_one":1,"k0":0,"k1":0}"#),
+            true
+        ),
+    ),
+    scripted_test!(
+        "data may have the greatest number of hashes",
+        Make::Data(r#"{"bits":{"bits":[0]},"num_hashes_minus_one":4294967294,"k0":0,"k1":0}"#),
+        (Compare(&[0], 4294967295, true), true),
+        (Contains(1), false),
     ),
 ];

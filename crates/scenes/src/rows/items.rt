@@ -1,7 +1,7 @@
 //! Items, one by one and many together, by builders too. The words were made by a model of
 //! SipHash-1-3 and of the positions, in Python.
 use crate::scripted::Op::{Compare, ContainsItem, Extend, InsertAll, InsertItem, Words};
-use crate::scripted::Size::{Hashes, Numbers};
+use crate::scripted::Size::{Hashes, Numbers, Texts};
 use crate::scripted::{Item, Make, ScriptedTest};
 
 // A filter of 2^25 bits, which is larger than a cache, takes these numbers and as many others:
@@ -82,7 +82,22 @@ pub(super) const MANY: &'static [ScriptedTest] = &[
         "items size a filter under a seed",
         Make::Rate(1, 1000, 42, Numbers(&[1, 2])),
         (ContainsItem(Item::Number(1)), true),
+        (ContainsItem(Item::Number(2)), true),
         (Compare(&[1523208063698539739], 22, true), true),
+    ),
+    scripted_test!(
+        "items are found in their words under their seed",
+        Make::Words(&[1523208063698539739], 42, Hashes(22)),
+        (ContainsItem(Item::Number(1)), true),
+        (ContainsItem(Item::Number(2)), true),
+        (Compare(&[1523208063698539739], 22, true), true),
+    ),
+    scripted_test!(
+        "texts size a filter for a rate",
+        Make::Rate(1, 1000, 0, Texts(&["42", "🦀"])),
+        (ContainsItem(Item::Text("42")), true),
+        (ContainsItem(Item::Text("🦀")), true),
+        (Compare(&[17359632962081458146], 22, true), true),
     ),
     // The logarithm of 2 times 128 is 88.7.
     scripted_test!(

@@ -1,10 +1,21 @@
 //! Whole filters: unions, intersections, clears and comparisons. Words are taken eight at a time,
 //! so that lengths go from below eight to above sixteen. Another filter has another key.
-use crate::scripted::Op::{
-    Clear, Clone, Compare, Contains, Insert, Meet, Ones, UniteWithItself, Words,
-};
+use crate::scripted::Op::{Clear, Compare, Contains, Insert, Meet, Ones, UniteWithItself, Words};
 use crate::scripted::Size::Hashes;
 use crate::scripted::{Make, ScriptedTest};
+
+// A filter of this many words of ones is cleared.
+macro_rules! is_cleared {
+    ($count:expr, $ones:expr) => {
+        scripted_test!(
+            "words of ones are cleared",
+            Make::Words(&[u64::MAX; $count], 0, Hashes(1)),
+            (Ones($ones), true),
+            (Clear, true),
+            (Ones(0), true),
+        )
+    };
+}
 
 // A filter of these words meets one of those by a union or an intersection, which makes these.
 macro_rules! meets {
@@ -65,20 +76,18 @@ pub(super) const MEETINGS: &'static [ScriptedTest] = &[
 
 /// Clears, copies and comparisons.
 pub(super) const COMPARISONS: &'static [ScriptedTest] = &[
+    is_cleared!(1, 64),
+    is_cleared!(7, 448),
+    is_cleared!(8, 512),
+    is_cleared!(9, 576),
+    is_cleared!(16, 1024),
+    is_cleared!(17, 1088),
     scripted_test!(
-        "a filter of seven words is cleared, and a copy goes its own way",
-        Make::Words(&[u64::MAX; 7], 0, Hashes(1)),
-        (Clear, true),
-        (Ones(0), true),
-        (Clone, true),
-        (Ones(0), true),
-    ),
-    scripted_test!(
-        "a filter of seventeen words is cleared",
-        Make::Words(&[u64::MAX; 17], 0, Hashes(1)),
-        (Ones(1088), true),
-        (Clear, true),
-        (Ones(0), true),
+        "the key is never compared, the number of hashes always",
+        Make::Words(&[5], 1, Hashes(1)),
+        (Compare(&[5], 1, true), true),
+        (Compare(&[5], 2, false), false),
+        (Words(&[5]), true),
     ),
     // The eighth word is the last of a group, and the ninth the rest.
     scripted_test!(

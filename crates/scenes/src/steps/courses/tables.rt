@@ -133,6 +133,14 @@ const UNDISTURBED: &'static [Course] = &[
         [0 begins Contains(1)] [0 goes] [0 goes] =>
         [0 begins Contains(1)] [0 makes Load(0) finding 1048576 answering false]
     },
+    // Of the positions 0, 20 and 32 of hash 1 the first is set and the second clear.
+    course! {
+        "a contains ends with the load that finds a bit clear",
+        [1], 3, 1, [1];
+        [0 begins Contains(1)] [0 goes] [0 goes] [0 goes] =>
+        [0 begins Contains(1)] [0 makes Load(0) finding 1]
+        [0 makes Load(0) finding 1 answering false]
+    },
     course! {
         "a run of no parties records nothing",
         [9], 1, 0, [9];

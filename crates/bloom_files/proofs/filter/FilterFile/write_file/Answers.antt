@@ -1,9 +1,18 @@
-use Rattle.std.proofs.Common.{subst}
+use Rattle.std.proofs.Common.{subst, sym}
 use Rattle.std.specs.Prelude.{OnErr, OnOk}
 use Rattle.std.specs.Io.KnownBytes.{Appends}
 use Rattle.lines.specs.Writing.{AppendsPart}
 use Rattle.bloom_files.specs.FileLayouts.{sealed_file}
+use Rattle.bloom_files.specs.FilterFiles.{IsFileOf}
+use Rattle.bloom_files.proofs.FileLemmas.{file-of}
 use Rattle.bloom_files.proofs.filter.FilterFile.write_file.Goals as goal
+
+pub returns-clause-file : goal.returns-clause-file
+returns-clause-file g c =
+    subst (λ bytes. IsFileOf g.Self.FilterFile.layout bytes (g.Self.FilterFile.seen c.args.self.now))
+    (λ i. sealed_file (c.layout.ensures i) (c.head-head.ensures.head i) (c.words.ensures i))
+    (file-of _ _ _ _ _ _ c.layout.ensures (sym c.head-head.ensures.head) (sym c.words.ensures)
+    c.head-head.ensures.range c.write_parts.ensures.file)
 
 pub returns-clause-whole : goal.returns-clause-whole
 returns-clause-whole g c =
