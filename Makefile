@@ -1,6 +1,7 @@
 # Builds and installs the programs, the library for C, the extension of SQLite and the Python
 # package (docs/INSTALL.md).
-#   make            proves and builds all but the package, the extension where SQLite's headers are
+#   make            proves and builds all; the extension of SQLite where its headers are, and the
+#                   Python package where setuptools, wheel and Python's headers are
 #   make check      the full check
 #   make install    installs them; DESTDIR goes before each folder
 #   make uninstall  removes what `make install` put there with the same variables
@@ -46,6 +47,9 @@ ARCHIVE = out/c/libfastbloom_c.a
 SOURCES := crates.txt $(shell find crates/*/{src,specs,proofs} 2> /dev/null)
 EXTENSION = out/c/fastbloom_sqlite.so
 HAS_SQLITE := $(shell $(CC) -include sqlite3ext.h -E -x c /dev/null > /dev/null 2>&1 && echo yes)
+MODULE = python/src/fastbloom/_core.abi3.so
+HAS_PYTHON := $(shell $(PYTHON) -c 'import os, setuptools, sysconfig, wheel; \
+  print("yes" * os.path.exists(sysconfig.get_path("include") + "/Python.h"))' 2> /dev/null)
 C_SOURCES = bin/build-c $(wildcard c/*) include/fastbloom.symbols $(HEADERS:%=include/%)
 
 # What is installed, beside the Python package.
@@ -67,7 +71,7 @@ OF_SYSTEM = $(if $(filter /usr/include,$(includedir)),\
   s|^libdir=.*|libdir=$(libdir)|; s|^includedir=.*|includedir=$(includedir)|)
 
 .PHONY: all check install man names release uninstall
-all: $(BINARIES) $(ARCHIVE) $(if $(HAS_SQLITE),$(EXTENSION))
+all: $(BINARIES) $(ARCHIVE) $(if $(HAS_SQLITE),$(EXTENSION)) $(if $(HAS_PYTHON),$(MODULE))
 
 # bin/NAME proves and builds a program that isn't up to date.
 $(BINARIES): $(SOURCES)
@@ -82,6 +86,12 @@ $(ARCHIVE): $(SOURCES) $(C_SOURCES)
 $(EXTENSION): sqlite/fastbloom_sqlite.c $(ARCHIVE)
 	$(CC) -std=c99 -O2 -Wall -Wextra $(CFLAGS) -fPIC -fvisibility=hidden -shared -Iinclude \
 	  $(LDFLAGS) $^ -Wl,--exclude-libs,ALL,--gc-sections,-z,defs,-z,relro,-z,now -o $@
+
+# So that the package can be used where it lies.
+$(MODULE): python/src/core.c python/setup.py $(ARCHIVE)
+	cd python && FASTBLOOM_LIB='$(CURDIR)/out/c' $(PYTHON) setup.py -q build_ext --inplace \
+	  --build-temp ../out/python
+	touch $@
 
 check: ; .ci/run
 release: ; dev/release '$(LOG)'
@@ -138,15 +148,14 @@ install: names all
 	    install -m 644 /dev/stdin '$(DESTDIR)$(libdir)'/$$file; \
 	done
 ifneq ($(pythondir),)
-	[ -e out/c/$(SHARED) ] || { echo 'make: no shared library, so no Python package' >&2; exit; }; \
+	[ -n '$(HAS_PYTHON)' ] || { echo 'make: $(PYTHON) lacks setuptools, wheel or its headers, so' \
+	  'there is no Python package' >&2; exit; }; \
 	work=$$(mktemp -d); trap 'rm -rf "$$work"' EXIT; umask 022; \
-	PYTHONPATH=python $(PYTHON) -Bc 'import backend, sys; \
-	  backend.build_wheel(sys.argv[1], {"library": "none"})' "$$work"; \
+	cp -R python LICENSE NOTICE "$$work"; cd "$$work/python"; \
+	FASTBLOOM_LIB='$(CURDIR)/out/c' $(PYTHON) -W ignore setup.py -q bdist_wheel -d "$$work"; \
 	$(PYTHON) -m zipfile -e "$$work"/*.whl "$$work/unpacked"; \
 	rm -rf $(MODULES); install -d '$(DESTDIR)$(pythondir)'; \
-	cp -R "$$work"/unpacked/* '$(DESTDIR)$(pythondir)'; \
-	ln -sf '$(call between,$(pythondir)/fastbloom,$(libdir))/$(SONAME)' \
-	  '$(DESTDIR)$(pythondir)/fastbloom'
+	cp -R "$$work"/unpacked/* '$(DESTDIR)$(pythondir)'
 endif
 
 # Folders that are empty then go too: below the system's own prefix just one of our name.

@@ -12,7 +12,6 @@
 #include "fastbloom.h"
 
 #include <errno.h>
-#include <stdlib.h>
 #include <string.h>
 #include <unistd.h>
 
@@ -150,7 +149,7 @@ static PyObject *memory_new(PyTypeObject *type, PyObject *arguments, PyObject *n
     if (made == NULL) return NULL;
     if (num_words <= (PY_SSIZE_T_MAX - LINE) / 8) {
         made->size = (Py_ssize_t)(8 * num_words);
-        made->block = calloc(8 * num_words + LINE, 1);
+        made->block = PyMem_Calloc(8 * num_words + LINE, 1);
     }
     if (made->block != NULL) return (PyObject *)made;
     Py_DECREF(made);
@@ -165,7 +164,7 @@ static int memory_lend(PyObject *self, Py_buffer *view, int flags) {
 
 static void memory_free(PyObject *self) {
     PyTypeObject *type = Py_TYPE(self);
-    free(((memory *)self)->block);
+    PyMem_Free(((memory *)self)->block);
     PyObject_Free(self);
     Py_DECREF(type);
 }

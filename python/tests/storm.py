@@ -106,18 +106,14 @@ def unions_both_ways():
             into.update(items[at : at + 10])
             into |= of
 
-    at_once(
-        lambda: unite(one, other, ITEMS[::2]), lambda: unite(other, one, ITEMS[1::2])
-    )
+    at_once(lambda: unite(one, other, ITEMS[::2]), lambda: unite(other, one, ITEMS[1::2]))
     return lost(one | other)
 
 
 def files_beside_adds():
     """Files that are made while a thread adds items are whole: the seal is that of the words."""
     seen, made = empty(), []
-    beside(
-        lambda: [seen.add(item) for item in ITEMS], lambda: made.append(seen.to_bytes())
-    )
+    beside(lambda: [seen.add(item) for item in ITEMS], lambda: made.append(seen.to_bytes()))
     for file in made[::10]:
         seen |= Filter.from_bytes(file)
     return lost(seen)

@@ -164,12 +164,8 @@ class Blocked(unittest.TestCase):
             (248, 31, 15872, 9),
         )
         self.assertEqual(BlockedFilter(10**6, "1/100").num_words, 156048)
-        self.assertEqual(
-            ctypes.addressof(ctypes.c_char.from_buffer(seen._view)) % 64, 0
-        )
-        self.assertEqual(
-            repr(seen), "<BlockedFilter: 15872 bits, 9 hashes, the zero key>"
-        )
+        self.assertEqual(ctypes.addressof(ctypes.c_char.from_buffer(seen._view)) % 64, 0)
+        self.assertEqual(repr(seen), "<BlockedFilter: 15872 bits, 9 hashes, the zero key>")
 
     def test_items(self):
         seen = small()
@@ -201,9 +197,7 @@ class Blocked(unittest.TestCase):
 
     def test_two_filters(self):
         one, other = small("crab", "lobster"), small("lobster", "whale")
-        self.assertEqual(
-            (one | other).contains_many(["crab", "lobster", "whale"]), [True] * 3
-        )
+        self.assertEqual((one | other).contains_many(["crab", "lobster", "whale"]), [True] * 3)
         self.assertEqual(
             (one & other).contains_many(["crab", "lobster", "whale"]),
             [False, True, False],
@@ -221,10 +215,7 @@ class Blocked(unittest.TestCase):
         seen = BlockedFilter(1000, "1/1000", bytes(range(16)))
         seen.update(["crab", "eel"])
         ways = [BlockedFilter.copy, copy.copy, copy.deepcopy]
-        ways += [
-            lambda it, n=number: pickle.loads(pickle.dumps(it, n))
-            for number in range(2, 6)
-        ]
+        ways += [lambda it, n=number: pickle.loads(pickle.dumps(it, n)) for number in range(2, 6)]
         for way in ways:
             other = way(seen)
             self.assertEqual(other, seen)
@@ -239,18 +230,12 @@ class Blocked(unittest.TestCase):
             seen = cls("fish")
             if cls is Both:
                 seen.more = "shell"
-            copies = [
-                pickle.loads(pickle.dumps(seen, number)) for number in range(2, 6)
-            ]
+            copies = [pickle.loads(pickle.dumps(seen, number)) for number in range(2, 6)]
             for other in [seen.copy(), copy.copy(seen), copy.deepcopy(seen), *copies]:
                 self.assertIs(type(other), cls)
-                self.assertEqual(
-                    (other, other.name, other.kept()), (seen, ["fish"], "fish")
-                )
+                self.assertEqual((other, other.name, other.kept()), (seen, ["fish"], "fish"))
                 self.assertFalse(hasattr(other, "unset"))
-                self.assertEqual(
-                    getattr(other, "more", None), "shell" if cls is Both else None
-                )
+                self.assertEqual(getattr(other, "more", None), "shell" if cls is Both else None)
             self.assertIs(copy.copy(seen).name, seen.name)
             self.assertIsNot(copy.deepcopy(seen).name, seen.name)
 
@@ -282,9 +267,7 @@ class Blocked(unittest.TestCase):
             (1, b""),
             (1, bytes(65)),
         ):
-            self.assertRaises(
-                ValueError, restored, BlockedFilter, hashes, bytes(16), words
-            )
+            self.assertRaises(ValueError, restored, BlockedFilter, hashes, bytes(16), words)
         self.assertRaises(ValueError, restored, BlockedFilter, 1, bytes(15), bytes(64))
         self.assertRaises(TypeError, restored, BlockedFilter, 1, bytes(16), 64)
 
@@ -331,9 +314,7 @@ class Rates(unittest.TestCase):
                 self.assertEqual(seen.false_positive_rate(), (wanted, wanted))
         seen = SharedBlockedFilter.over(bytearray(one + empty + empty), 1).take()
         low, high = seen.exact_false_positive_rate()
-        self.assertTrue(
-            low < Fraction(1, 1536) < high and high - low == Fraction(1, 2**63)
-        )
+        self.assertTrue(low < Fraction(1, 1536) < high and high - low == Fraction(1, 2**63))
 
     def test_about_how_many_items_lines_have(self):
         """Of n items with one position, half of a line is set once n = 512 ln 2 = 354.9."""
@@ -342,9 +323,7 @@ class Rates(unittest.TestCase):
             self.assertEqual((seen.estimate(), seen.approx_items), ((354, 355), 354.5))
         self.assertEqual(BlockedFilter(10, "1/2").estimate(), (0, 0))
         full = SharedBlockedFilter.over(bytearray(b"\xff" * 64), 1).load()
-        self.assertEqual(
-            (full.estimate(), full.approx_items), ((WORD - 1, None), math.inf)
-        )
+        self.assertEqual((full.estimate(), full.approx_items), ((WORD - 1, None), math.inf))
         self.assertEqual(half.load().estimated_union(full), (WORD - 1, None))
         self.assertEqual(half.load().estimated_common(full), (0, None))
         self.assertEqual(full.estimated_common(half.load()), (0, None))
@@ -360,14 +339,10 @@ class Rates(unittest.TestCase):
                 (seen.estimated_union(other), 75_000),
                 (seen.estimated_common(other), 25_000),
             ):
-                self.assertTrue(
-                    0.98 * wanted < low <= high < 1.02 * wanted, (low, high)
-                )
+                self.assertTrue(0.98 * wanted < low <= high < 1.02 * wanted, (low, high))
             expected = seen.false_positive_rate()[1] * 200_000
             found = seen.contains_hashes(row(2, 0, 200_000)).count()
-            self.assertTrue(
-                abs(found - expected) < 5 * math.sqrt(expected), (found, expected)
-            )
+            self.assertTrue(abs(found - expected) < 5 * math.sqrt(expected), (found, expected))
             self.assertTrue(49_500 < seen.capacity_for(rate) < 55_000)
 
     def test_how_many_items_lines_take(self):
@@ -391,9 +366,7 @@ class Rates(unittest.TestCase):
 
         thread = threading.Thread(target=tick)
         interval = sys.getswitchinterval()
-        sys.setswitchinterval(
-            60
-        )  # so that a thread gets on only where another one lets it
+        sys.setswitchinterval(60)  # so that a thread gets on only where another one lets it
         try:
             thread.start()
             before, begun = ticks[0], time.process_time()
@@ -408,9 +381,7 @@ class Rates(unittest.TestCase):
             sys.setswitchinterval(interval)
             ended.set()
             thread.join()
-        at, above = (
-            seen.exact_expected_false_positive_rate(capacity + it)[1] for it in (0, 1)
-        )
+        at, above = (seen.exact_expected_false_positive_rate(capacity + it)[1] for it in (0, 1))
         self.assertTrue(at <= rate < above)
 
     def test_the_mean_rate_of_lines(self):
@@ -431,18 +402,14 @@ class Rates(unittest.TestCase):
         for items in (-1, WORD):
             self.assertRaises(ValueError, seen.expected_false_positive_rate, items)
         small = SharedBlockedFilter.over(bytearray(64 * 31), 9)
-        self.assertEqual(
-            (small.capacity_for("1/1000"), small.capacity_for(0)), (1023, 0)
-        )
+        self.assertEqual((small.capacity_for("1/1000"), small.capacity_for(0)), (1023, 0))
 
     def test_shared_lines_are_not_copied_to_tell_of_them(self):
         seen = SharedBlockedFilter(10_000, "1/1000")
         seen.add_hashes(row(1, 0, 10_000))
         plain = seen.load()
         with mock.patch.object(fastbloom._plain.Plain, "_of", side_effect=MemoryError):
-            self.assertEqual(
-                seen.exact_false_positive_rate(), plain.exact_false_positive_rate()
-            )
+            self.assertEqual(seen.exact_false_positive_rate(), plain.exact_false_positive_rate())
             self.assertEqual(
                 (seen.estimate(), seen.count_ones()),
                 (plain.estimate(), plain.count_ones()),
@@ -459,9 +426,7 @@ class Rates(unittest.TestCase):
             seen.add_hashes(row(1, 0, 40_000))
             other.add_hashes(row(1, 20_000, 40_000))
             low, high = seen.jaccard(other)
-            self.assertTrue(
-                0.32 < low <= high < 0.35, (filters, float(low), float(high))
-            )
+            self.assertTrue(0.32 < low <= high < 0.35, (filters, float(low), float(high)))
             low, high = seen.estimated_common(other)
             self.assertTrue(19_500 < low <= high < 20_500, (filters, low, high))
             self.assertEqual(filters(10, "1/2").jaccard(filters(10, "1/2")), (0, 1))
@@ -470,9 +435,7 @@ class Rates(unittest.TestCase):
 
     def test_sets(self):
         few, more = small("crab"), small("crab", "eel")
-        self.assertTrue(
-            few <= more and few < more and more > few and few.issubset(more)
-        )
+        self.assertTrue(few <= more and few < more and more > few and few.issubset(more))
         self.assertFalse(more <= few or few < few)
         self.assertEqual(few.union(["eel"], more), more)
         self.assertEqual(more.intersection(few, ["crab", "whale"]), few)
@@ -512,13 +475,9 @@ class Files(unittest.TestCase):
     def test_a_worked_file_is_read_and_written(self):
         for read in self.readers(WORKED):
             seen = read()
-            self.assertEqual(
-                (seen.num_lines, seen.num_hashes, seen.key), (1, 3, COUNTING_KEY)
-            )
+            self.assertEqual((seen.num_lines, seen.num_hashes, seen.key), (1, 3, COUNTING_KEY))
             self.assertEqual(seen._words[0] % 64, 0)
-            self.assertEqual(
-                seen.contains_many(["crab", "lobster", "whale"]), [True, True, False]
-            )
+            self.assertEqual(seen.contains_many(["crab", "lobster", "whale"]), [True, True, False])
             self.assertEqual(seen.to_bytes(), WORKED)
             seen.clear()
             self.assertEqual([seen.add("crab"), seen.add("lobster")], [False, False])
@@ -597,13 +556,9 @@ class Files(unittest.TestCase):
         seen.save(self.path)
         self.assertRaisesRegex(ValueError, "seal", SharedBlockedFilter.map, self.path)
         seen.save(self.path, sealed=False)
-        one, other = SharedBlockedFilter.map(self.path), SharedBlockedFilter.map(
-            self.path
-        )
+        one, other = SharedBlockedFilter.map(self.path), SharedBlockedFilter.map(self.path)
         self.assertTrue("crab" in one and not one.add("eel") and other.add("eel"))
-        self.assertEqual(
-            (other.num_words, other.num_hashes, other.key), (248, 9, bytes(16))
-        )
+        self.assertEqual((other.num_words, other.num_hashes, other.key), (248, 9, bytes(16)))
         self.assertEqual(other.load(), small("crab", "eel"))
         one.release()
         del other
@@ -619,14 +574,10 @@ class Shared(unittest.TestCase):
             (248, 31, 15872, 9),
         )
         self.assertEqual((seen._words[0].words % 64, seen.key), (0, bytes(range(16))))
-        self.assertEqual(
-            repr(seen), "<SharedBlockedFilter: 15872 bits, 9 hashes, a key>"
-        )
+        self.assertEqual(repr(seen), "<SharedBlockedFilter: 15872 bits, 9 hashes, a key>")
 
     def test_items(self):
-        seen, other = SharedBlockedFilter(1000, "1/1000"), SharedBlockedFilter(
-            1000, "1/1000"
-        )
+        seen, other = SharedBlockedFilter(1000, "1/1000"), SharedBlockedFilter(1000, "1/1000")
         self.assertFalse(seen.add("crab"))
         self.assertTrue(seen.add(b"crab") and "crab" in seen and "whale" not in seen)
         other.add("lobster")
@@ -673,9 +624,7 @@ class Shared(unittest.TestCase):
             for value in hashes[first : first + 100]:
                 seen.add_hash(value)
 
-        threads = [
-            threading.Thread(target=fill, args=(first,)) for first in (0, 1000, 0, 1000)
-        ]
+        threads = [threading.Thread(target=fill, args=(first,)) for first in (0, 1000, 0, 1000)]
         for thread in threads:
             thread.start()
         for thread in threads:

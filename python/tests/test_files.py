@@ -77,9 +77,7 @@ class Files(unittest.TestCase):
     def test_a_worked_file_is_read_and_written(self):
         for read in self.readers(WORKED):
             seen = read()
-            self.assertEqual(
-                (seen.num_words, seen.num_hashes, seen.key), (1, 3, COUNTING_KEY)
-            )
+            self.assertEqual((seen.num_words, seen.num_hashes, seen.key), (1, 3, COUNTING_KEY))
             self.assertEqual(seen.words(), [0x1080008040001400])
             self.assertEqual(seen.contains_many(["crab", "lobster"]), [True, True])
             self.assertEqual(seen.to_bytes(), WORKED)
@@ -113,9 +111,7 @@ class Files(unittest.TestCase):
             self.assertEqual(read().num_hashes, 64)
             with self.assertRaises(ValueError) as told:
                 read(max_hashes=63)
-            self.assertEqual(
-                str(told.exception), "the file has 64 hashes, and max_hashes is 63"
-            )
+            self.assertEqual(str(told.exception), "the file has 64 hashes, and max_hashes is 63")
         for read in self.readers(many):
             self.assertRaises(ValueError, read)
             for most in (2**32 - 1, None):
@@ -129,9 +125,7 @@ class Files(unittest.TestCase):
             self.assertEqual(read(max_words=2).num_words, 2)
             with self.assertRaises(ValueError) as told:
                 read(max_words=1)
-            self.assertEqual(
-                str(told.exception), "the file has 2 words, and max_words is 1"
-            )
+            self.assertEqual(str(told.exception), "the file has 2 words, and max_words is 1")
         lines = BlockedFilter(10, "1/2").to_bytes(sealed=False)
         for head, filters in ((two, (Filter, SharedFilter)), (lines, BLOCKED)):
             head = bytearray(head[:64])
@@ -139,13 +133,9 @@ class Files(unittest.TestCase):
             self.path.write_bytes(head)
             os.truncate(self.path, 64 + 2**40)
             calls = [filters[0].load, filters[1].map]
-            calls.append(
-                lambda path, **options: filters[0].load(path, mapped=True, **options)
-            )
+            calls.append(lambda path, **options: filters[0].load(path, mapped=True, **options))
             for call in calls:
-                with self.assertRaisesRegex(
-                    ValueError, f"{2**37} words, and max_words is 1000"
-                ):
+                with self.assertRaisesRegex(ValueError, f"{2**37} words, and max_words is 1000"):
                     call(self.path, max_words=1000)
             self.path.unlink()
 
@@ -249,9 +239,7 @@ class Files(unittest.TestCase):
     def set_list(self, path, *entries, default=False):
         """Gives a file a list, or a folder a default: entries are a tag, rights and a number."""
         name = "system.posix_acl_default" if default else "system.posix_acl_access"
-        data = struct.pack("<I", 2) + b"".join(
-            struct.pack("<HHI", *entry) for entry in entries
-        )
+        data = struct.pack("<I", 2) + b"".join(struct.pack("<HHI", *entry) for entry in entries)
         try:
             os.setxattr(path, name, data)
         except OSError as error:
@@ -388,9 +376,7 @@ class Files(unittest.TestCase):
                 opened.append(mode)
             return plain_open(path, flags, mode, **options)
 
-        with mock.patch.object(os, "fsync", told), mock.patch.object(
-            os, "open", told_open
-        ):
+        with mock.patch.object(os, "fsync", told), mock.patch.object(os, "open", told_open):
             Filter.from_bytes(WORKED).save(self.path)
         self.assertEqual((opened, modes), ([0o600], [0o600]))
 
@@ -399,9 +385,7 @@ class Files(unittest.TestCase):
 
         def told(descriptor):
             found = os.fstat(descriptor)
-            flushed.append(
-                (stat.S_ISDIR(found.st_mode) and found.st_ino, os.listdir(folder))
-            )
+            flushed.append((stat.S_ISDIR(found.st_mode) and found.st_ino, os.listdir(folder)))
             fsync(descriptor)
 
         folder, here = self.folder.name, os.getcwd()
@@ -588,9 +572,7 @@ class Files(unittest.TestCase):
             seen.add("crab")
             size = 8 * seen.num_words
             for sealed in (False, True):
-                self.assertLess(
-                    peak_of(lambda: seen.save(self.path, sealed)), size // 2
-                )
+                self.assertLess(peak_of(lambda: seen.save(self.path, sealed)), size // 2)
                 self.assertLess(peak_of(lambda: seen.to_bytes(sealed)), size * 3 // 2)
                 self.assertEqual(self.path.read_bytes(), seen.to_bytes(sealed))
             self.assertEqual(type(seen).load(self.path), seen)
@@ -635,9 +617,7 @@ class Files(unittest.TestCase):
             told.append(True)
             second.save(self.path)
 
-        self.addCleanup(
-            signal.signal, signal.SIGALRM, signal.signal(signal.SIGALRM, save)
-        )
+        self.addCleanup(signal.signal, signal.SIGALRM, signal.signal(signal.SIGALRM, save))
         with mock.patch.object(os, "fsync", interrupted):
             first.save(self.path)
         self.assertEqual((told, Filter.load(self.path)), ([True], first))
@@ -655,9 +635,7 @@ class Files(unittest.TestCase):
 
     def test_a_write_that_fails_leaves_the_old_file(self):
         seen = Filter.from_bytes(WORKED)
-        self.assertRaises(
-            OSError, seen.save, Path(self.folder.name) / "none" / "seen.bloom"
-        )
+        self.assertRaises(OSError, seen.save, Path(self.folder.name) / "none" / "seen.bloom")
         self.path.mkdir()
         self.assertRaises(OSError, seen.save, self.path)
         self.assertEqual(os.listdir(self.folder.name), [self.path.name])

@@ -74,9 +74,7 @@ def of_words(words, hashes):
     """The filter with these words and this many hashes, read from a file."""
     file = bytearray(small().to_bytes(sealed=False)[:64])
     file[8:24] = hashes.to_bytes(8, "little") + len(words).to_bytes(8, "little")
-    return Filter.from_bytes(
-        file + b"".join(word.to_bytes(8, "little") for word in words)
-    )
+    return Filter.from_bytes(file + b"".join(word.to_bytes(8, "little") for word in words))
 
 
 def drawn_words(draw, num_words):
@@ -84,10 +82,7 @@ def drawn_words(draw, num_words):
     bits = [False] * (64 * num_words)
     for place in draw.sample(range(len(bits)), draw.randrange(len(bits))):
         bits[place] = True
-    return [
-        sum(bits[64 * at + place] << place for place in range(64))
-        for at in range(num_words)
-    ]
+    return [sum(bits[64 * at + place] << place for place in range(64)) for at in range(num_words)]
 
 
 def items_of(words, hashes):
@@ -208,9 +203,7 @@ class Items(unittest.TestCase):
         ):
             self.assertFalse(seen.add(item))
         raw = b"\x01\0\0\0\x02\0\0\0"
-        self.assertEqual(
-            seen.contains_many([b"crab", "eel", raw, record.tobytes()]), [True] * 4
-        )
+        self.assertEqual(seen.contains_many([b"crab", "eel", raw, record.tobytes()]), [True] * 4)
 
     def test_hashes_are_those_of_the_bytes_under_the_key(self):
         keyed = Filter(1, "1/2", COUNTING_KEY)
@@ -249,9 +242,7 @@ class Many(unittest.TestCase):
     def test_answers_are_in_order(self):
         seen = small()
         seen.update(["crab", b"lobster"])
-        self.assertEqual(
-            seen.contains_many(["crab", "whale", "lobster"]), [True, False, True]
-        )
+        self.assertEqual(seen.contains_many(["crab", "whale", "lobster"]), [True, False, True])
 
     def test_many_answers_are_those_of_single_look_ups(self):
         seen = Filter(3000, "1/10")
@@ -319,9 +310,7 @@ class Many(unittest.TestCase):
             b"\1\2",
             b"\3\4",
         ]
-        self.assertEqual(
-            seen.contains_many(numpy.array(rows, dtype=object)), [True] * 8
-        )
+        self.assertEqual(seen.contains_many(numpy.array(rows, dtype=object)), [True] * 8)
 
 
 class Sizes(unittest.TestCase):
@@ -329,9 +318,7 @@ class Sizes(unittest.TestCase):
         wanted = Filter(1000, "1/1000")
         for rate in (0.001, Fraction(1, 1000), Decimal("0.001"), "0.001", "1e-3"):
             self.assertEqual(Filter(1000, rate), wanted)
-        self.assertEqual(
-            (wanted.num_words, wanted.num_bits, wanted.num_hashes), (225, 14400, 10)
-        )
+        self.assertEqual((wanted.num_words, wanted.num_bits, wanted.num_hashes), (225, 14400, 10))
 
     def test_refusals(self):
         for rate, code in ((0, 4), ("0/5", 4), ("1/0", 4)):
@@ -432,9 +419,7 @@ class Sizes(unittest.TestCase):
         seen = small()
         self.assertEqual(seen.count_ones(), 0)
         seen.update(f"item{number}" for number in range(1000))
-        self.assertEqual(
-            seen.count_ones(), sum(bin(word).count("1") for word in seen.words())
-        )
+        self.assertEqual(seen.count_ones(), sum(bin(word).count("1") for word in seen.words()))
         seen.clear()
         self.assertEqual(seen.count_ones(), 0)
 
@@ -483,9 +468,7 @@ class Sizes(unittest.TestCase):
         # Of two draws among 64 positions: a query of two finds both in 64 * 1 + 64 * 63 * 4 cases.
         mean = Fraction(64 + 64 * 63 * 4, 64**4)
         low, high = one.exact_expected_false_positive_rate(1)
-        self.assertTrue(
-            one.expected_rate(1)[1] < mean and low == one.expected_rate(1)[0]
-        )
+        self.assertTrue(one.expected_rate(1)[1] < mean and low == one.expected_rate(1)[0])
         self.assertTrue(low <= mean <= high)
         below, above = one.expected_false_positive_rate(1)
         self.assertTrue(below <= low <= high <= above)
@@ -519,9 +502,7 @@ class Sizes(unittest.TestCase):
 
     def test_the_text_of_a_filter_hides_its_key(self):
         self.assertEqual(repr(small()), "<Filter: 14400 bits, 10 hashes, the zero key>")
-        self.assertEqual(
-            repr(small(key=COUNTING_KEY)), "<Filter: 14400 bits, 10 hashes, a key>"
-        )
+        self.assertEqual(repr(small(key=COUNTING_KEY)), "<Filter: 14400 bits, 10 hashes, a key>")
 
     def test_the_version(self):
         self.assertRegex(fastbloom.__version__, r"\d+\.\d+\.\d+")
@@ -538,9 +519,7 @@ class Types(unittest.TestCase):
         self.assertIn(Filter.contains_many, calls)
         for call in calls:
             typing.get_type_hints(call)
-        self.assertEqual(
-            typing.get_type_hints(Filter.contains_many)["return"], list[bool]
-        )
+        self.assertEqual(typing.get_type_hints(Filter.contains_many)["return"], list[bool])
         self.assertEqual(str(inspect.signature(Filter.add)), "(self, item, /)")
 
 
@@ -592,13 +571,9 @@ class Sets(unittest.TestCase):
             if all(word == 2**64 - 1 for word in both):
                 continue
             seen, other = of_words(first, hashes), of_words(second, hashes)
-            self.assertEqual(
-                seen.estimated_union(other), of_words(both, hashes).estimate()
-            )
+            self.assertEqual(seen.estimated_union(other), of_words(both, hashes).estimate())
             all_items = Fraction(items_of(both, hashes))
-            common = Fraction(items_of(first, hashes)) + Fraction(
-                items_of(second, hashes)
-            )
+            common = Fraction(items_of(first, hashes)) + Fraction(items_of(second, hashes))
             common = max(common - all_items, Fraction(0))
             low, high = seen.estimated_common(other)
             self.assertLessEqual(low, common)

@@ -34,9 +34,7 @@ class Growing(unittest.TestCase):
         self.assertTrue(seen.contains_hash(1) and "eel" not in seen)
         seen.update(["eel", b"prawn"])
         self.assertTrue("eel" in seen and "prawn" in seen)
-        self.assertEqual(
-            repr(seen), f"<GrowingFilter: for 1 items, {64 * len(seen.filters)} bits>"
-        )
+        self.assertEqual(repr(seen), f"<GrowingFilter: for 1 items, {64 * len(seen.filters)} bits>")
 
     def test_refused(self):
         for arguments in ((-1, "1/2"), (2**64, "1/2"), (1, 1), (1, "1/2", b"short")):
@@ -45,9 +43,7 @@ class Growing(unittest.TestCase):
         seen.add("crab")
         # The next filter's rate has a part of 2^64.
         self.assertRaises(ValueError, seen.add, "eel")
-        self.assertEqual(
-            (seen.add("crab"), seen.approx_items, "eel" in seen), (True, 1, False)
-        )
+        self.assertEqual((seen.add("crab"), seen.approx_items, "eel" in seen), (True, 1, False))
         for wrong in ("crab", b"crab", 5):
             self.assertRaises(TypeError, seen.update, wrong)
         self.assertRaises(TypeError, seen.__init__, 1, "1/2")
@@ -56,9 +52,7 @@ class Growing(unittest.TestCase):
         seen = GrowingFilter(1, "9/10")
         self.assertEqual(seen.exact_false_positive_rate(), (0, 0))
         seen.add_hash(0)
-        self.assertEqual(
-            seen.exact_false_positive_rate(), (Fraction(1, 64), Fraction(1, 64))
-        )
+        self.assertEqual(seen.exact_false_positive_rate(), (Fraction(1, 64), Fraction(1, 64)))
         seen.add_hash(1 << 58)
         low, high = (it.exact_false_positive_rate()[0] for it in seen.filters)
         wanted = max(low, high), low + seen.filters[1].exact_false_positive_rate()[1]
@@ -85,9 +79,7 @@ class Copies(unittest.TestCase):
                 )
                 before = made.exact_false_positive_rate()
                 rest = [f"item{number}" for number in range(5, 40)]
-                self.assertEqual(
-                    [copied.add(it) for it in rest], [twin.add(it) for it in rest]
-                )
+                self.assertEqual([copied.add(it) for it in rest], [twin.add(it) for it in rest])
                 self.assertEqual(made.exact_false_positive_rate(), before)
 
 

@@ -51,9 +51,7 @@ class Masks(unittest.TestCase):
         for count in (0, 1, 7, 8, 9, 63, 64, 65, 200):
             values = [draw.random() < 0.5 for _ in range(count)]
             number = sum(value << place for place, value in enumerate(values))
-            mask = Mask(
-                bytearray(number.to_bytes((count + 63) // 64 * 8, "little")), count
-            )
+            mask = Mask(bytearray(number.to_bytes((count + 63) // 64 * 8, "little")), count)
             self.assertEqual(len(mask), count)
             self.assertEqual(mask.tolist(), values)
             self.assertEqual(list(mask), values)
@@ -138,9 +136,7 @@ class Masks(unittest.TestCase):
         self.assertRaises(TypeError, values.take, mask)
         self.assertEqual(values[mask].tolist(), [20, 30])
         for kind in (bool, object):
-            self.assertEqual(
-                numpy.asarray(mask, kind).tolist(), [False, True, True, False]
-            )
+            self.assertEqual(numpy.asarray(mask, kind).tolist(), [False, True, True, False])
 
     @unittest.skipUnless(pandas, "pandas isn't there")
     def test_a_mask_chooses_rows_or_is_refused(self):
@@ -249,9 +245,7 @@ class Hashes(unittest.TestCase):
                     seen.contains_hashes,
                     seen.add_hashes_tell_new,
                 ):
-                    self.assertRaisesRegex(
-                        TypeError, "^hashes |bytes-like", call, other
-                    )
+                    self.assertRaisesRegex(TypeError, "^hashes |bytes-like", call, other)
             self.assertEqual(seen.count_ones(), 0)
 
     @unittest.skipUnless(numpy, "there is no numpy")
@@ -300,9 +294,7 @@ class Items(unittest.TestCase):
             ):
                 seen = make()
                 self.assertRaises(error, seen.update, items)
-                self.assertEqual(
-                    seen.contains_many(["crab", "eel", "whale"]), [True, True, False]
-                )
+                self.assertEqual(seen.contains_many(["crab", "eel", "whale"]), [True, True, False])
 
     def test_several_at_once(self):
         for make in (small, shared):
@@ -340,18 +332,12 @@ class Items(unittest.TestCase):
                 (seen.update, "add_hashes"),
                 (seen.contains_many, "contains_hashes"),
             ):
-                self.assertRaisesRegex(
-                    TypeError, f"numbers, .* `{other}` takes", call, numbers
-                )
+                self.assertRaisesRegex(TypeError, f"numbers, .* `{other}` takes", call, numbers)
         released = memoryview(b"crab")
         released.release()
         for one in ("crab", b"crab", bytearray(b"crab"), memoryview(b"crab"), released):
-            self.assertRaisesRegex(
-                TypeError, "one item, which `add` takes", seen.update, one
-            )
-            self.assertRaisesRegex(
-                TypeError, "one item, which `in` takes", seen.contains_many, one
-            )
+            self.assertRaisesRegex(TypeError, "one item, which `add` takes", seen.update, one)
+            self.assertRaisesRegex(TypeError, "one item, which `in` takes", seen.contains_many, one)
         self.assertEqual(seen.count_ones(), 0)
 
 
@@ -392,9 +378,7 @@ class Sets(unittest.TestCase):
 
     def test_subsets(self):
         for less, more in ((self.few, self.more), (small(), self.few)):
-            self.assertTrue(
-                less <= more and less < more and more >= less and more > less
-            )
+            self.assertTrue(less <= more and less < more and more >= less and more > less)
             self.assertTrue(less.issubset(more) and more.issuperset(less))
             self.assertFalse(more <= less or more < less or less >= more or less > more)
             self.assertFalse(more.issubset(less) or less.issuperset(more))
@@ -439,9 +423,7 @@ class Memory(unittest.TestCase):
     def test_the_words_are_seen_and_not_copied(self):
         seen = small()
         view = seen.view()
-        self.assertEqual(
-            (view.format, len(view), view.readonly), ("Q", seen.num_words, True)
-        )
+        self.assertEqual((view.format, len(view), view.readonly), ("Q", seen.num_words, True))
         self.assertEqual(sum(view), 0)
         seen.add("crab")
         self.assertEqual(view.tolist(), seen.words())
@@ -509,10 +491,7 @@ class Types(unittest.TestCase):
                 if (getattr(call, "__module__", None) or "").startswith("fastbloom")
             ]
             calls += [
-                it.fget
-                for _, it in inspect.getmembers(
-                    cls, lambda it: isinstance(it, property)
-                )
+                it.fget for _, it in inspect.getmembers(cls, lambda it: isinstance(it, property))
             ]
             self.assertGreater(len(calls), 5)
             for call in calls:

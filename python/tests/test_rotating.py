@@ -41,9 +41,7 @@ class Rotating(unittest.TestCase):
             with self.assertRaises(Refusal) as caught:
                 RotatingFilter(*arguments)
             self.assertEqual(caught.exception.code, code)
-        RotatingFilter(
-            0, "2/18446744073709551615"
-        )  # half of it is a fraction of such parts
+        RotatingFilter(0, "2/18446744073709551615")  # half of it is a fraction of such parts
         seen = RotatingFilter(1, "1/2")
         for item in (5, None):
             with self.assertRaises(TypeError):
@@ -57,10 +55,7 @@ class Rotating(unittest.TestCase):
     def test_copies_go_on_by_themselves(self):
         """Each keeps the last items that it was told itself."""
         ways = [RotatingFilter.copy, copy.copy, copy.deepcopy]
-        ways += [
-            lambda it, n=number: pickle.loads(pickle.dumps(it, n))
-            for number in range(6)
-        ]
+        ways += [lambda it, n=number: pickle.loads(pickle.dumps(it, n)) for number in range(6)]
         for way in ways:
             seen = Named(3, "1/1000000000", key=bytes(range(16)))
             seen.name, seen.more = ["fish"], "shell"
@@ -79,14 +74,10 @@ class Rotating(unittest.TestCase):
                 [name in seen for name in ("crab", "whale", "0", "3")],
                 2 * [True] + 2 * [False],
             )
-            self.assertEqual(
-                [name in other for name in ("crab", "0", "3")], [False, True, True]
-            )
+            self.assertEqual([name in other for name in ("crab", "0", "3")], [False, True, True])
             self.assertFalse(seen.add("shrimp"))
             self.assertNotIn("shrimp", other)
-            self.assertTrue(
-                all(name in seen for name in ("crab", "prawn", "whale", "shrimp"))
-            )
+            self.assertTrue(all(name in seen for name in ("crab", "prawn", "whale", "shrimp")))
 
     def test_rates(self):
         # Filters of 64 bits and one hash. After the turn the older one has 36 of them, and then
@@ -98,9 +89,7 @@ class Rotating(unittest.TestCase):
             self.assertEqual(seen.exact_false_positive_rate(), (rate, rate))
             self.assertFalse(seen.add_hash(place << 58))
         for place in range(35):
-            self.assertEqual(
-                seen.false_positive_rate(), (36 / 64, min(1, (36 + place) / 64))
-            )
+            self.assertEqual(seen.false_positive_rate(), (36 / 64, min(1, (36 + place) / 64)))
             self.assertTrue(seen.add_hash(place << 58))
 
     def test_threads_take_turns(self):
@@ -115,9 +104,7 @@ class Rotating(unittest.TestCase):
         sys.setswitchinterval(1e-6)
         try:
             for _ in range(100):
-                threads = [
-                    threading.Thread(target=add, args=(thread,)) for thread in range(4)
-                ]
+                threads = [threading.Thread(target=add, args=(thread,)) for thread in range(4)]
                 for thread in threads:
                     thread.start()
                 for thread in threads:

@@ -5,7 +5,6 @@ import mmap
 import multiprocessing
 import os
 import pickle
-import threading
 import time
 import tempfile
 import threading
@@ -50,9 +49,7 @@ def fill_file(path, part):
 
 def run_workers(task, *arguments):
     context = multiprocessing.get_context("spawn")
-    workers = [
-        context.Process(target=task, args=(*arguments, part)) for part in range(WORKERS)
-    ]
+    workers = [context.Process(target=task, args=(*arguments, part)) for part in range(WORKERS)]
     for worker in workers:
         worker.start()
     for worker in workers:
@@ -93,9 +90,7 @@ class Threads(unittest.TestCase):
             if run % 2:
                 self.run_threads(lambda hashes: seen.add_hashes(hashes) or 0)
             else:
-                news = self.run_threads(
-                    lambda hashes: seen.add_hashes_tell_new(hashes).count(True)
-                )
+                news = self.run_threads(lambda hashes: seen.add_hashes_tell_new(hashes).count(True))
                 self.assertEqual(news, self.plain.count_ones())
             self.assertEqual(seen.load(), self.plain)
             self.assertEqual(seen.count_ones(), self.plain.count_ones())
@@ -124,8 +119,7 @@ class Threads(unittest.TestCase):
         taker.start()
         self.run_threads(
             lambda hashes: [
-                seen.add_hashes(hashes[at : at + 1000])
-                for at in range(0, len(hashes), 1000)
+                seen.add_hashes(hashes[at : at + 1000]) for at in range(0, len(hashes), 1000)
             ].count(1)
         )
         ended.set()
@@ -143,9 +137,7 @@ class Processes(unittest.TestCase):
         words = 5000
         memory = shared_memory.SharedMemory(create=True, size=8 * words)
         try:
-            self.assertEqual(
-                run_workers(fill_memory, memory.name, words), [0] * WORKERS
-            )
+            self.assertEqual(run_workers(fill_memory, memory.name, words), [0] * WORKERS)
             seen = SharedFilter.over(memory.buf[: 8 * words], 3)
             plain = zeros(words, 3).take()
             plain.update(b"%d" % number for number in range(20_000))
@@ -234,15 +226,9 @@ class Calls(unittest.TestCase):
                 wanted.update(items)
                 self.assertTrue(type(made) is plain and wanted <= made)
             self.assertEqual((more | less, more & less), (more.load(), less.load()))
-            self.assertTrue(
-                less <= more and less < more and more >= less and more > less
-            )
-            self.assertTrue(
-                less.issubset(more) and more.issuperset(less) and less <= less
-            )
-            self.assertFalse(
-                more <= less or less < less or less > less or other <= more
-            )
+            self.assertTrue(less <= more and less < more and more >= less and more > less)
+            self.assertTrue(less.issubset(more) and more.issuperset(less) and less <= less)
+            self.assertFalse(more <= less or less < less or less > less or other <= more)
             for call in ("__or__", "__and__", "__le__", "__ge__"):
                 self.assertIs(getattr(less, call)(less.load()), NotImplemented)
                 self.assertRaises(ValueError, getattr(less, call), filters(10, "1/2"))
@@ -257,9 +243,7 @@ class Calls(unittest.TestCase):
             plain = seen.load()
             for call in ("exact_false_positive_rate", "expected_false_positive_rate"):
                 more = (500,) if "expected" in call else ()
-                self.assertEqual(
-                    getattr(seen, call)(*more), getattr(plain, call)(*more)
-                )
+                self.assertEqual(getattr(seen, call)(*more), getattr(plain, call)(*more))
             self.assertEqual(seen.estimate(), plain.estimate())
             self.assertEqual(seen.approx_items, plain.approx_items)
             self.assertEqual(seen.false_positive_rate(), plain.false_positive_rate())
@@ -268,17 +252,13 @@ class Calls(unittest.TestCase):
     def test_how_many_items_a_size_takes(self):
         """By one hash, of n items each bit is set at a rate of 1 - (63/64)^n: half at 44.01."""
         seen = zeros(1, 1)
-        self.assertEqual(
-            (seen.capacity_for("1/2"), seen.load().capacity_for("1/2")), (44, 44)
-        )
+        self.assertEqual((seen.capacity_for("1/2"), seen.load().capacity_for("1/2")), (44, 44))
         self.assertEqual((seen.capacity_for("1/64"), seen.capacity_for("1/65")), (1, 0))
         self.assertEqual(seen.expected_rate(1)[0], seen.load().expected_rate(1)[0])
         for rate in ("1/1000", "1/2", "1/1000000"):
             seen = Filter(10_000, rate)
             capacity = seen.capacity_for(rate)
-            at, above = (
-                seen.exact_expected_false_positive_rate(capacity + it) for it in (0, 1)
-            )
+            at, above = (seen.exact_expected_false_positive_rate(capacity + it) for it in (0, 1))
             self.assertTrue(at[1] <= Fraction(rate) < above[1])
             self.assertTrue(9_900 < capacity < 10_500, capacity)
         self.assertRaises(ValueError, seen.capacity_for, 1)
@@ -286,12 +266,8 @@ class Calls(unittest.TestCase):
 
     def test_hashes_of_buffers(self):
         seen = zeros(5, 1)
-        self.assertEqual(
-            seen.add_hashes_tell_new(array.array("Q", [5, 5])), [True, False]
-        )
-        self.assertEqual(
-            seen.contains_hashes(memoryview(bytes(16)).cast("Q")), [True, True]
-        )
+        self.assertEqual(seen.add_hashes_tell_new(array.array("Q", [5, 5])), [True, False])
+        self.assertEqual(seen.contains_hashes(memoryview(bytes(16)).cast("Q")), [True, True])
         self.assertEqual(seen.contains_hashes(array.array("Q")), [])
         for refused in (
             b"12345678",

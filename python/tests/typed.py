@@ -52,9 +52,7 @@ def fill(some: AnyFilter, names: List[str]) -> int:
     fresh: Mask = some.add_hashes_tell_new(array("Q", [1, 2]))
     high: Optional[int] = some.estimate().high
     print(high, some.false_positive_rate()[1])
-    return (
-        fresh.count() + sum(fresh[:1]) + some.count_ones() + some.capacity_for("1/1000")
-    )
+    return fresh.count() + sum(fresh[:1]) + some.count_ones() + some.capacity_for("1/1000")
 
 
 def sets(mine: Own, other: Filter) -> Tuple[Own, Own, bool, float, memoryview]:
@@ -94,9 +92,7 @@ def in_lines(theirs: BlockedFilter) -> Tuple[BlockedFilter, Mask]:
     ours |= SharedBlockedFilter.map(b"lines.bloom")
     lines |= theirs
     lines.update(theirs, ["a text"])
-    common: Optional[int] = (
-        lines.union(theirs, ["a text"]).estimated_common(theirs).high
-    )
+    common: Optional[int] = lines.union(theirs, ["a text"]).estimated_common(theirs).high
     print(common, lines.issubset(theirs), lines.intersection(theirs) < lines)
     return lines & theirs.copy(), lines.contains_hashes(array("Q", [1]))
 

@@ -5,19 +5,15 @@ Each line has the call, the threads, and the millions of items a second, of all 
 `update` and `contains_many` are given lists of buffers, of eight bytes each, and `in` one buffer at
 a time; `add_hashes` and `contains_hashes` are given buffers of hashes. Every thread has items of
 its own, so that all threads together handle as many. The last line of a call is its gain by
-threads. The last two lines are of a `Filter` by one thread: the microseconds that `update` takes
-for an item, and how many times as long `contains_hashes` takes as the call of C alone, by ctypes.
-A filter has ten bits for each item, and seven positions.
+threads. A filter has ten bits for each item, and seven positions.
 """
 
 import array
-import ctypes
 import sys
 import threading
 import time
 
 from fastbloom import SharedFilter
-from fastbloom import _library as library
 
 ITEMS, THREADS, ROUNDS, AT_ONCE = [int(word) for word in sys.argv[1:]] + [1_000_000, 4, 5, 65_536][
     len(sys.argv) - 1 :
@@ -61,25 +57,6 @@ def seconds(call, pieces, threads):
     return max(ended for _, ended in times) - min(began for began, _ in times)
 
 
-def tell_plain(plain, lists, buffers_of_hashes):
-    """Prints what two calls of a `Filter` cost, of all rounds the best of each."""
-    shape = *plain._words, plain.num_hashes
-    found = (ctypes.c_uint64 * ((len(buffers_of_hashes[0]) + 63) // 64))()
-    given = [(ctypes.c_uint64 * len(it)).from_buffer(it) for it in buffers_of_hashes]
-
-    def look_in_c(words):
-        library.PLAIN.contains_hashes(*shape, words, len(words), found, len(found))
-
-    updates, looks, looks_in_c = [], [], []
-    for _ in range(ROUNDS):
-        plain.clear()
-        updates.append(seconds(plain.update, lists, 1))
-        looks.append(seconds(plain.contains_hashes, buffers_of_hashes, 1))
-        looks_in_c.append(seconds(look_in_c, given, 1))
-    print(f"Filter.update {min(updates) / sum(map(len, lists)) * 1e6:.3f} microseconds an item")
-    print(f"Filter.contains_hashes {min(looks) / min(looks_in_c):.2f} of the call of C")
-
-
 def main():
     pieces = max(THREADS, ITEMS // AT_ONCE // THREADS * THREADS)
     size = ITEMS // pieces
@@ -109,7 +86,6 @@ def main():
         for threads, took in best.items():
             print(f"{name} {threads} {len(hashes) / took / 1e6:.2f}")
         print(f"{name} gain {best[1] / best[THREADS]:.2f}")
-    tell_plain(seen.load(), lists, buffers_of_hashes)
 
 
 main()

@@ -51,31 +51,6 @@ def test_pkg_config(library, tmp_path):
     assert run(program, env=environment(LD_LIBRARY_PATH=library)) == (0, FIRST, "")
 
 
-def build(folder, made, call="build_wheel", **settings):
-    """Builds the package of a folder as a front end does."""
-    code = (
-        "import backend, sys; print(getattr(backend, sys.argv[1])(sys.argv[2], eval(sys.argv[3])))"
-    )
-    variables = environment(FASTBLOOM_LIB=LIBRARY)
-    return run(sys.executable, "-c", code, call, made, settings, cwd=folder, env=variables)
-
-
-@pytest.mark.parametrize("call", ["build_wheel", "build_editable", "build_sdist"])
-def test_a_build_of_the_package_refuses_settings_that_it_does_not_know(call, tmp_path):
-    for wrong in ({"libary": "none"}, {"library": "other"}, {"library": "none", "tag": "any"}):
-        status, _, errors = build(TOP / "python", tmp_path, call, **wrong)
-        assert status == 1 and "setting" in errors and "Traceback" not in errors
-        assert not list(tmp_path.iterdir())
-    assert build(TOP / "python", tmp_path, call, library="none", platform="any")[0] == 0
-
-
-def test_a_build_in_a_copy_of_the_folder_tells_why_it_is_refused(tmp_path):
-    """pip below 21.3 makes such a copy."""
-    copied = shutil.copytree(TOP / "python", tmp_path / "pip-req-build")
-    status, _, errors = build(copied, tmp_path)
-    assert status == 1 and "pip below 21.3" in errors and "Traceback" not in errors
-
-
 def configure(folder, library, version):
     needs("cmake")
     return run(
@@ -111,33 +86,27 @@ def install(python, *words, **variables):
         "pip",
         "install",
         "--no-index",
+        "--no-build-isolation",
         *words,
         env=environment(PIP_CONFIG_FILE=os.devnull, **variables),
     )
 
 
 def test_no_package_without_the_library(tmp_path):
-    status, _, errors = install(
-        sys.executable,
-        "--target",
-        tmp_path / "package",
-        TOP / "python",
-        FASTBLOOM_LIB=tmp_path / "none",
-    )
-    assert status == 1 and f"there is no {tmp_path}/none: run bin/build-c first" in errors
+    copied = shutil.copytree(TOP / "python", tmp_path / "python")
+    shutil.copy(TOP / "LICENSE", tmp_path)
+    shutil.copy(TOP / "NOTICE", tmp_path)
+    words = sys.executable, "--target", tmp_path / "package", copied
+    status, _, errors = install(*words, FASTBLOOM_LIB=tmp_path / "none")
+    assert status == 1 and f"there is no {tmp_path}/none/libfastbloom_c.a: run bin/build-c" in errors
 
 
 def test_an_editable_installation(tmp_path):
-    venv.create(tmp_path, with_pip=True)
+    venv.create(tmp_path, with_pip=True, system_site_packages=True)
     python = tmp_path / "bin/python"
-    assert install(python, "-e", TOP / "python")[0] == 0
-    told = run(
-        python,
-        "-c",
-        "import fastbloom; print(fastbloom.__file__)",
-        cwd="/",
-        env=environment(FASTBLOOM_LIB=LIBRARY),
-    )
+    assert install(python, "-e", TOP / "python", FASTBLOOM_LIB=LIBRARY)[0] == 0
+    code = "import fastbloom; print(fastbloom.__file__)"
+    told = run(python, "-c", code, cwd="/", env=environment())
     assert told == (0, f"{TOP}/python/src/fastbloom/__init__.py\n", "")
 
 

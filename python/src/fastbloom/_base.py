@@ -38,12 +38,8 @@ class Base(_core.Core, Generic[Kind]):
     _kind: ClassVar[Any]  # the class of those that it takes in
     _unit: ClassVar[int]  # of so many bytes its words are made
     _new_memory: ClassVar[Any]  # memory of so many words, all of them clear
-    _copy: Callable[
-        [], Any
-    ]  # a plain filter with its words, as they are at one instant, or loaded
-    _now: Callable[
-        [], Any
-    ]  # itself, or a plain filter with its words as they are loaded
+    _copy: Callable[[], Any]  # a plain filter with its words, as they are at one instant, or loaded
+    _now: Callable[[], Any]  # itself, or a plain filter with its words as they are loaded
 
     def __init__(self, items: int, rate: Rate, key: Buffer = bytes(16)) -> None:
         """The empty filter for this many items, at a rate of false positives.
@@ -54,9 +50,7 @@ class Base(_core.Core, Generic[Kind]):
         and too large a filter MemoryError.
         """
         items = number_of_items(items)
-        num_words, num_hashes = unless_refused(
-            _core.plan(self._number, *rate_parts(rate), items)
-        )
+        num_words, num_hashes = unless_refused(_core.plan(self._number, *rate_parts(rate), items))
         self._fill(self._new_memory(num_words), num_hashes, key)
 
     def _fill(self, view: memoryview, num_hashes: int, key: Buffer) -> None:
@@ -121,9 +115,7 @@ class Base(_core.Core, Generic[Kind]):
 
     # Rates and numbers of items. A shared filter's words are read one after the other.
 
-    def exact_expected_false_positive_rate(
-        self, items: int
-    ) -> tuple[Fraction, Fraction]:
+    def exact_expected_false_positive_rate(self, items: int) -> tuple[Fraction, Fraction]:
         """Two bounds of the mean rate of false positives once it has this many items.
 
         The rate is the part of all draws of positions, those of the items and of a look-up, by
@@ -188,9 +180,7 @@ class Base(_core.Core, Generic[Kind]):
     def _check_kind(self, other: Any) -> None:
         """Raises for what is no filter of this kind that fits."""
         if not isinstance(other, self._kind):
-            raise TypeError(
-                f"the other is a {self._kind.__name__}, not {type(other).__name__}"
-            )
+            raise TypeError(f"the other is a {self._kind.__name__}, not {type(other).__name__}")
         self._check_shape(other)
 
     def _check_shape(self, other: Any) -> None:

@@ -97,9 +97,7 @@ def rate_parts(rate: Rate) -> tuple[int, int]:
     return fraction.numerator, fraction.denominator
 
 
-def check_file(
-    head: bytes, size: int, kind: int, *limits: Limit
-) -> tuple[int, int, bytes, int]:
+def check_file(head: bytes, size: int, kind: int, *limits: Limit) -> tuple[int, int, bytes, int]:
     """What the first 64 bytes of a file of this size tell, if the file isn't refused for them.
 
     They are the numbers of words and of hashes, the key and the seal. The limits are of hashes and
@@ -109,9 +107,7 @@ def check_file(
     # which the kinds differ, are read after the size.
     good = struct.pack("<8Q", 0, 1, 1, 0, 0, 0, 0, 0)
     there = min(len(head) // 8 * 8, 48)
-    wanted = (
-        HEAD + 8 * unless_refused(_core.read_head(0, head[:there] + good[there:]))[0]
-    )
+    wanted = HEAD + 8 * unless_refused(_core.read_head(0, head[:there] + good[there:]))[0]
     if size > wanted:
         raise Refusal(_TOO_LONG)
     if size < wanted or len(head) < HEAD:  # a file that grows may have been short

@@ -45,9 +45,7 @@ def write_file(
         to_stream(stream)
 
 
-def _replace(
-    path: bytes, before: Optional[os.stat_result], write: Callable[[Any], None]
-) -> None:
+def _replace(path: bytes, before: Optional[os.stat_result], write: Callable[[Any], None]) -> None:
     """Puts a new file at a path, where there was one of this status before.
 
     Until then the bytes are in a file beside it, whose name no other call draws. Last the folder is
@@ -137,9 +135,7 @@ def _flush_folder(path: bytes, file: int) -> None:
     try:
         os.fsync(folder)
     except OSError as error:
-        if (
-            error.errno != errno.EINVAL
-        ):  # some file systems have no such call, and need none
+        if error.errno != errno.EINVAL:  # some file systems have no such call, and need none
             raise
     finally:
         os.close(folder)
@@ -205,9 +201,7 @@ def size_of(file: io.BufferedReader) -> int:
     return os.fstat(file.fileno()).st_size
 
 
-def map_file(
-    file: io.BufferedReader, size: int, access: int = mmap.ACCESS_COPY
-) -> mmap.mmap:
+def map_file(file: io.BufferedReader, size: int, access: int = mmap.ACCESS_COPY) -> mmap.mmap:
     """A mapping of a file of this size. By default what is written stays in this process."""
     return mmap.mmap(file.fileno(), size, access=access, **_WITHOUT_DESCRIPTOR)
 

@@ -62,9 +62,7 @@ def check_many(items: Any, call: str) -> None:
         return
     if not isinstance(items, str) and _has_numbers(items):
         call = _FOR_HASHES[call]
-        raise TypeError(
-            f"this has numbers, and no items; `{call}` takes an array of hashes"
-        )
+        raise TypeError(f"this has numbers, and no items; `{call}` takes an array of hashes")
     raise TypeError(f"this is one item, which `{call}` takes")
 
 

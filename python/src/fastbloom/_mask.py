@@ -94,9 +94,7 @@ class Mask(Sequence[bool]):
         if copy is False:
             raise ValueError("an array of these values is a copy")
         if dtype is not None and numpy.dtype(dtype).kind not in "bO":
-            raise TypeError(
-                "a mask has no numbers: numpy.asarray(mask) has its truth values"
-            )
+            raise TypeError("a mask has no numbers: numpy.asarray(mask) has its truth values")
         bits = numpy.frombuffer(self.bits, dtype="u1")
         values = numpy.unpackbits(bits, count=self._count, bitorder="little").view(bool)
         return values if dtype is None else values.astype(dtype)

@@ -30,9 +30,7 @@ def _restored(cls: type[_Plain], data: bytes) -> _Plain:
     return cls.from_bytes(data, max_hashes=None)
 
 
-def _restored_words(
-    cls: type[_Plain], num_hashes: int, key: bytes, words: Buffer
-) -> _Plain:
+def _restored_words(cls: type[_Plain], num_hashes: int, key: bytes, words: Buffer) -> _Plain:
     """The filter that was pickled as words, which are copied: they may be another filter's."""
     with memoryview(words).cast("B") as data:
         if not data.nbytes or data.nbytes % cls._unit:
@@ -83,9 +81,7 @@ class Plain(Base[Kind]):
         """A filter, or that of items, with as many words and hashes as this one, and its key."""
         if isinstance(other, self._kind):
             return other
-        made = self._kind._of(
-            self._new_memory(self.num_words), self.num_hashes, self.key
-        )
+        made = self._kind._of(self._new_memory(self.num_words), self.num_hashes, self.key)
         made.update(other)
         return made
 
@@ -174,9 +170,7 @@ class Plain(Base[Kind]):
         write_file(path, write, write_stream)
 
     @classmethod
-    def from_bytes(
-        cls, data: Buffer, *, max_hashes: Limit = 64, max_words: Limit = None
-    ) -> Self:
+    def from_bytes(cls, data: Buffer, *, max_hashes: Limit = 64, max_words: Limit = None) -> Self:
         """The filter of a file's bytes, which are copied.
 
         Bytes that are no such file raise Refusal, which is a ValueError, with the first reason; so

@@ -37,9 +37,7 @@ class Shared(Base[Kind], Generic[Kind, OfWords]):
 
     __slots__ = ()
     _plain: ClassVar[type[Plain[Any]]]
-    _new_memory = staticmethod(
-        lambda num_words: memoryview(shared_memory(8 * num_words))
-    )
+    _new_memory = staticmethod(lambda num_words: memoryview(shared_memory(8 * num_words)))
 
     @classmethod
     def over(cls, buffer: Buffer, num_hashes: int, key: Buffer = bytes(16)) -> Self:
@@ -50,14 +48,10 @@ class Shared(Base[Kind], Generic[Kind, OfWords]):
         the filter is blocked, or aren't aligned to 8, or a number is out of range. Lines are best
         aligned to 64. TypeError: it can't be written, or the number is no integer.
         """
-        return cls._over(
-            memoryview(buffer).cast("B"), number_of_hashes(num_hashes), key
-        )
+        return cls._over(memoryview(buffer).cast("B"), number_of_hashes(num_hashes), key)
 
     @classmethod
-    def map(
-        cls, path: Path, *, max_hashes: Limit = 64, max_words: Limit = None
-    ) -> Self:
+    def map(cls, path: Path, *, max_hashes: Limit = 64, max_words: Limit = None) -> Self:
         """The filter of a file, whose words all processes fill that map it.
 
         What is added goes into the file. It must have no seal, which adds would make wrong: make it
@@ -67,9 +61,7 @@ class Shared(Base[Kind], Generic[Kind, OfWords]):
         """
         with open_regular(path, "r+b") as file:
             head, size = file.read(HEAD), size_of(file)
-            _, num_hashes, key, seal = check_file(
-                head, size, cls._number, max_hashes, max_words
-            )
+            _, num_hashes, key, seal = check_file(head, size, cls._number, max_hashes, max_words)
             if seal:
                 raise ValueError("the file has a seal, which adds would make wrong")
             memory = map_file(file, size, mmap.ACCESS_WRITE)
