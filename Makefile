@@ -46,7 +46,7 @@ ARCHIVE = out/c/libfastbloom_c.a
 SOURCES := crates.txt $(shell find crates/*/{src,specs,proofs} 2> /dev/null)
 EXTENSION = out/c/fastbloom_sqlite.so
 HAS_SQLITE := $(shell $(CC) -include sqlite3ext.h -E -x c /dev/null > /dev/null 2>&1 && echo yes)
-C_SOURCES = bin/build-c $(wildcard c/*) include/fastbloom.symbols $(HEADERS:%=include/%)
+C_SOURCES = bin/build-c c $(wildcard c/*) include/fastbloom.symbols $(HEADERS:%=include/%)
 
 # What is installed, beside the Python package.
 SHORT = $(filter yes,$(SHORT_NAMES))
