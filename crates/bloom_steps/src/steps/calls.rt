@@ -195,7 +195,7 @@ pub fn take_into<W: TurnWords>(words: &W, num_hashes: u32, taken: &mut [u64])
         words: SpanStore::new(words, words, 0, words.len(), Turn::first()),
         kept: taken,
     };
-    // A take's steps are those of any number of hashes.
+    // A take makes the same steps whatever the number of hashes, which may be 0.
     drive(&mut store, Call::Take, 1);
     let KeepingStore { words: _, kept } = store;
     // This does nothing. The proof reads from it what `taken` holds.
