@@ -50,7 +50,7 @@ HAS_SQLITE := $(shell $(CC) -include sqlite3ext.h -E -x c /dev/null > /dev/null 
 MODULE = python/src/fastbloom/_core.abi3.so
 HAS_PYTHON := $(shell $(PYTHON) -c 'import os, setuptools, sysconfig, wheel; \
   print("yes" * os.path.exists(sysconfig.get_path("include") + "/Python.h"))' 2> /dev/null)
-C_SOURCES = bin/build-c $(wildcard c/*) include/fastbloom.symbols $(HEADERS:%=include/%)
+C_SOURCES = bin/build-c c $(wildcard c/*) include/fastbloom.symbols $(HEADERS:%=include/%)
 
 # What is installed, beside the Python package.
 SHORT = $(filter yes,$(SHORT_NAMES))

@@ -1,7 +1,7 @@
 #!/usr/bin/env python3
 """What `rt ci` has proved, for scripts that need it again: the toolchain's own module knows it.
 
-usage: dev/kept.py FILE   behind `rt ci`, where no source has changed since FILE was written before
+usage: dev/kept.py FILE   behind `rt ci`, where FILE was written before it and no source since
 
 Some kits keep it in a place of their own (STORE), by checksums of the sources: `take` gets it from
 there. Others leave it in crates/*/out, without the stamps by which other commands of the toolchain
@@ -94,4 +94,6 @@ def stamp(since):
 
 
 if __name__ == '__main__':
+    if len(sys.argv) != 2:
+        sys.exit('usage: dev/kept.py FILE')
     stamp(os.path.getmtime(sys.argv[1]))

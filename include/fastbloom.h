@@ -570,8 +570,8 @@ void fastbloom_unmap(fastbloom_filter *filter);
  * replaced or truncated, and a file to which the descriptor is open goes on at its place.
  *
  * It returns FASTBLOOM_OK; or FASTBLOOM_EMPTY_WORDS, FASTBLOOM_TOO_MANY_WORDS, FASTBLOOM_MEMORY or
- * FASTBLOOM_OUTPUT, and then the old file is as it was. Only where the flush of the folder failed,
- * the new file is there. */
+ * FASTBLOOM_OUTPUT, and then the old file is as it was, while a stream may have a part of the new
+ * one. Only where the flush of the folder failed, the new file is there. */
 FASTBLOOM_MUST_USE uint8_t fastbloom_save(const char *path, const fastbloom_filter *filter,
                                           bool sealed);
 

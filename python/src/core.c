@@ -666,8 +666,9 @@ static PyObject *filter_to_bytes(PyObject *self, PyObject *is_sealed) {
     uint8_t *file = (uint8_t *)PyBytes_AsString(made);
     uint64_t *words = (uint64_t *)(file + HEAD), seal = 0;
     memcpy(words, it->words.words, 8 * num_words);
-    UNLOCKED_IF(sealed,
-                seal = SIZES[it->kind & BLOCKED].seal(words, num_words, it->num_hashes, it->key));
+    if (sealed)
+        UNLOCKED_IF(
+            true, seal = SIZES[it->kind & BLOCKED].seal(words, num_words, it->num_hashes, it->key));
     uint8_t code =
         SIZES[it->kind & BLOCKED].head_write(num_words, it->num_hashes, it->key, seal, file);
     if (code == 0) return made;

@@ -476,7 +476,8 @@ class Files(unittest.TestCase):
         for read in self.readers(WORKED):
             seen = read()
             self.assertEqual((seen.num_lines, seen.num_hashes, seen.key), (1, 3, COUNTING_KEY))
-            self.assertEqual(seen._words[0] % 64, 0)
+            memory = ctypes.c_char.from_buffer(seen._view)
+            self.assertEqual(ctypes.addressof(memory) % 64, 0)
             self.assertEqual(seen.contains_many(["crab", "lobster", "whale"]), [True, True, False])
             self.assertEqual(seen.to_bytes(), WORKED)
             seen.clear()
@@ -573,7 +574,8 @@ class Shared(unittest.TestCase):
             (seen.num_words, seen.num_lines, seen.num_bits, seen.num_hashes),
             (248, 31, 15872, 9),
         )
-        self.assertEqual((seen._words[0].words % 64, seen.key), (0, bytes(range(16))))
+        memory = ctypes.c_char.from_buffer(seen._view)
+        self.assertEqual((ctypes.addressof(memory) % 64, seen.key), (0, bytes(range(16))))
         self.assertEqual(repr(seen), "<SharedBlockedFilter: 15872 bits, 9 hashes, a key>")
 
     def test_items(self):

@@ -526,18 +526,25 @@ class Files(unittest.TestCase):
         self.assertEqual(sorted(os.listdir(folder / "folder")), ["first", "second"])
 
     def saved_by_another(self, path):
-        """Saves a file as another user, where this one may, and returns the number of the error."""
+        """Saves a file as another user, where this one is root: the number of the error, or 0."""
         child = os.fork()
         if child == 0:
             try:
+                os.chdir(path.parent)  # to which other folders may bar the way
                 if os.geteuid() == 0:
-                    os.setresgid(1235, 1235, 1235)
-                    os.setresuid(1235, 1235, 1235)
-                Filter.from_bytes(WORKED).save(path)
+                    try:
+                        os.setresgid(1235, 1235, 1235)
+                        os.setresuid(1235, 1235, 1235)
+                    except OSError:
+                        os._exit(255)
+                Filter.from_bytes(WORKED).save(path.name)
             except OSError as error:
                 os._exit(error.errno)
             os._exit(0)
-        return os.waitstatus_to_exitcode(os.waitpid(child, 0)[1])
+        number = os.waitstatus_to_exitcode(os.waitpid(child, 0)[1])
+        if number == 255:
+            self.skipTest("this process can't become another user")
+        return number
 
     def test_a_folder_that_may_not_be_read(self):
         folder = Path(self.folder.name)

@@ -34,7 +34,8 @@ class Growing(unittest.TestCase):
         self.assertTrue(seen.contains_hash(1) and "eel" not in seen)
         seen.update(["eel", b"prawn"])
         self.assertTrue("eel" in seen and "prawn" in seen)
-        self.assertEqual(repr(seen), f"<GrowingFilter: for 1 items, {64 * len(seen.filters)} bits>")
+        bits = sum(it.num_bits for it in seen.filters)
+        self.assertEqual(repr(seen), f"<GrowingFilter: for 1 items, {bits} bits>")
 
     def test_refused(self):
         for arguments in ((-1, "1/2"), (2**64, "1/2"), (1, 1), (1, "1/2", b"short")):
@@ -49,14 +50,19 @@ class Growing(unittest.TestCase):
         self.assertRaises(TypeError, seen.__init__, 1, "1/2")
 
     def test_rates(self):
-        seen = GrowingFilter(1, "9/10")
-        self.assertEqual(seen.exact_false_positive_rate(), (0, 0))
-        seen.add_hash(0)
-        self.assertEqual(seen.exact_false_positive_rate(), (Fraction(1, 64), Fraction(1, 64)))
-        seen.add_hash(1 << 58)
-        low, high = (it.exact_false_positive_rate()[0] for it in seen.filters)
-        wanted = max(low, high), low + seen.filters[1].exact_false_positive_rate()[1]
-        self.assertEqual(seen.exact_false_positive_rate(), wanted)
+        # The first filter has 64 bits and one hash.
+        seen = GrowingFilter(36, "9/10")
+        for place in range(36):
+            rate = Fraction(place, 64)
+            self.assertEqual(seen.exact_false_positive_rate(), (rate, rate))
+            self.assertFalse(seen.add_hash(place << 58))
+        self.assertEqual(len(seen.filters), 1)
+        self.assertFalse(seen.add_hash(63 << 58))
+        newest = seen.filters[1].exact_false_positive_rate()
+        self.assertTrue(0 < newest[0] < Fraction(36, 64))
+        self.assertEqual(
+            seen.exact_false_positive_rate(), (Fraction(36, 64), Fraction(36, 64) + newest[1])
+        )
 
 
 class Copies(unittest.TestCase):

@@ -6,6 +6,7 @@
 //! - `masks`: an insert by whole words, one step for each.
 //! - `store`, `memory`, `span_store`: where steps are carried out: in memory, and on words that
 //!   threads share.
+//! - `keeping_store`: the same words, where each word that is taken out is kept.
 //! - `runner`, `trace`: runs the calls of several threads in a given order, and what a run leaves
 //!   behind.
 //! - `calls`: the calls on words that threads share.

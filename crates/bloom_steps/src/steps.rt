@@ -5,6 +5,7 @@
 
 pub mod calls;
 mod driver;
+mod keeping_store;
 mod machine;
 mod masks;
 mod memory;

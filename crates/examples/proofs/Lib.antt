@@ -1,3 +1,4 @@
 mod GuardedFacts
 mod KnownFacts
 mod KnownLemmas
+mod WrittenLemmas

@@ -11,7 +11,7 @@
 //! - `blocked`, `growing`, `rotating`, `seated`, `fills`, `files`: one kind of filter, or its
 //!   files.
 //! - `threads`: threads that share a filter.
-//! - `room`: each request for memory refused in turn, by `dev/starve`.
+//! - `room`: requests for memory refused, one or all, by `dev/starve`.
 //! - `engines`: the programs' engines over readers, writers and sieves that fail or are odd.
 //! - `texts`: the texts of all errors.
 //! - `used`: the examples of the pages.

@@ -53,7 +53,8 @@ fn plain_words(alloc: Global, words: &[u64]) -> Result<BuilderWithBits, Refused>
     named("from_vec", BloomFilter::from_vec(words_of(alloc, words)?))
 }
 
-fn plain_by(
+/// The plain filter of a builder, if that was made.
+pub(crate) fn plain_by(
     builder: Result<BuilderWithBits, Refused>,
     seed: &u128,
     size: &Size,

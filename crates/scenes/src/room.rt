@@ -3,6 +3,7 @@
 //! dev/starve compares.
 
 mod calls;
+mod parts;
 mod seated;
 mod without_memory;
 

@@ -3,7 +3,7 @@
 mod shared;
 
 use examples::builders::{by_bits_and_hashes, by_bits_and_items, by_rate_and_items, by_words};
-use examples::clauses::remember;
+use examples::clauses::{remember, write_and_read};
 use examples::estimates::{are_alike, bounds_of};
 use examples::files::{load, save};
 use examples::guarded::Guarded;
@@ -150,10 +150,18 @@ fn is_saved(rt: &HostRuntime, filter: &BloomFilter) -> bool {
     }
 }
 
+// Whether it comes back in memory.
+fn is_read_back(alloc: Global, filter: &BloomFilter) -> bool {
+    match write_and_read(alloc, filter) {
+        Ok(read) => read == *filter,
+        Err(_refusal) => false,
+    }
+}
+
 #[test]
 fn a_filter_is_read_from_its_file(rt: HostRuntime) {
     let is_saved = match one(rt.alloc()) {
-        Ok(filter) => is_saved(&rt, &filter),
+        Ok(filter) => is_saved(&rt, &filter) & is_read_back(rt.alloc(), &filter),
         Err(_refusal) => false,
     };
     assert!(rt; is_saved);

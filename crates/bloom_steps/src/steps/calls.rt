@@ -5,6 +5,7 @@ ghost use Rattle.bloom_steps.specs.LiveSteps.{EachInTurn, MakesCallInTurn, Makes
 ghost use Rattle.bloom_steps.specs.Loaded.{CountsLoaded, WereLoaded};
 
 use super::driver::drive;
+use super::keeping_store::KeepingStore;
 use super::span_store::SpanStore;
 use super::vocabulary::Call;
 use bloom_parts::bit_vector::{Loads, Turn, TurnWords, next_place};
@@ -190,10 +191,15 @@ pub fn take_into<W: TurnWords>(words: &W, num_hashes: u32, taken: &mut [u64])
     ensures taken { TakesWordsOf (W.vector words.now) num_hashes taken.new }
     ensures shape { length taken.new ≡ length taken.old }
 {
-    let mut turn = Turn::first();
-    'words: for word in 0..words.len() {
-        taken[word] = words.swap_zero(&mut turn, word);
-    }
+    let mut store = KeepingStore {
+        words: SpanStore::new(words, words, 0, words.len(), Turn::first()),
+        kept: taken,
+    };
+    // A take makes the same steps whatever the number of hashes, which may be 0.
+    drive(&mut store, Call::Take, 1);
+    let KeepingStore { words: _, kept } = store;
+    // This does nothing. The proof reads from it what `taken` holds.
+    let _ = &*kept;
 }
 
 /// Loads the words, word 0 first, each into the number with its index.

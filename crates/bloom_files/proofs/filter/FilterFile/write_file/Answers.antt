@@ -9,7 +9,8 @@ use Rattle.bloom_files.proofs.filter.FilterFile.write_file.Goals as goal
 
 pub returns-clause-file : goal.returns-clause-file
 returns-clause-file g c =
-    subst (λ bytes. IsFileOf g.Self.FilterFile.layout bytes (g.Self.FilterFile.seen c.args.self.now))
+    let f = g.Self.FilterFile.seen c.args.self.now in
+    subst (λ bytes. IsFileOf g.Self.FilterFile.layout bytes f)
     (λ i. sealed_file (c.layout.ensures i) (c.head-head.ensures.head i) (c.words.ensures i))
     (file-of _ _ _ _ _ _ c.layout.ensures (sym c.head-head.ensures.head) (sym c.words.ensures)
     c.head-head.ensures.range c.write_parts.ensures.file)
