@@ -1,5 +1,5 @@
 //! The blocked Bloom filter that threads share, and change without waiting for one another.
-ghost use Rattle.std.specs.Prelude.{◌≡◌, ◌*◌, ◌≤◌, IfOk, IsOkUnless};
+ghost use Rattle.std.specs.Prelude.{◌≡◌, ◌*◌, ◌/◌, ◌≤◌, IfOk, IsOkUnless};
 ghost use Rattle.bloom_blocked.specs.SharedBlocked.{BeganAsLines, MakesInsertInLine, MakesLookUpInLine, WereInsertedInLines};
 ghost use Rattle.bloom_blocked.specs.LineSteps.{SetsInTurn, WasSetInLine};
 ghost use Rattle.bloom_steps.specs.LiveSteps.{EachInTurn};
@@ -74,6 +74,8 @@ impl<S> AtomicBlockedBloomFilter<S> {
     pub fn num_bits(&self) -> usize
         ensures value { result ≡ 64 * self.now.words.count }
         ensures least { 512 ≤ result }
+        // The words are whole lines.
+        ensures lines { self.now.words.count ≡ 8 * (self.now.words.count / 8) }
     {
         self.words.num_bits()
     }
