@@ -10,7 +10,7 @@ use Rattle.bloom_parts.proofs.PublishedLemmas.{content-zeros, content-past}
 use Rattle.bloom_plain.specs.Filter.{Filter}
 use Rattle.bloom_plain.proofs.CaseLemmas.{alike_below, content-case}
 use Rattle.bloom_blocked.specs.Lines.{line_positions, are_in_line}
-use Rattle.bloom_blocked.specs.Many.{positions_of_all, all_are_in_lines, after_first, TellsFound, TellsNew}
+use Rattle.bloom_blocked.specs.Many.{positions_in_lines, all_are_in_lines, lines_after, TellsFoundInLines, TellsNewInLines}
 use Rattle.bloom_blocked.specs.Blocked.{num_lines_of, contains_in_line, InsertsInLine, InsertsAllInLines, InsertsItemsInLines}
 use Rattle.bloom_blocked.proofs.BitLemmas.{bits-next, word-where}
 use Rattle.bloom_blocked.proofs.PositionLemmas.{line_range_law}
@@ -121,13 +121,13 @@ items-hashed : InsertsItemsInLines (λ h x. h + x) (line 0 0 2 7) (1 ∷ 2 ∷ [
 items-hashed = refl
 
 -- the positions of two hashes together, and whether both are in a set
-positions_of_all-second : positions_of_all 1 2 (0 ∷ 1 ∷ []) 13 ≡ true
+positions_in_lines-second : positions_in_lines 1 2 (0 ∷ 1 ∷ []) 13 ≡ true
 unfolding positions chain
-positions_of_all-second = refl
+positions_in_lines-second = refl
 
-positions_of_all-none : positions_of_all 1 2 (0 ∷ 1 ∷ []) 14 ≡ false
+positions_in_lines-none : positions_in_lines 1 2 (0 ∷ 1 ∷ []) 14 ≡ false
 unfolding positions chain
-positions_of_all-none = refl
+positions_in_lines-none = refl
 
 all_are_in-both : all_are_in_lines 1 2 (0 ∷ 1 ∷ []) (content (8193 ∷ 0 ∷ 17179869184 ∷ [])) ≡ true
 unfolding content are_in chain
@@ -142,7 +142,7 @@ no-bit : (F : ℕ → Bool) (p : ℕ) → content (0 ∷ []) p ≡ (nat_lt p 0 &
 no-bit F p = content-zeros 1 p ∙ ap (λ b. b && F p) (sym (le-ltb p 0 (omega arith)))
 
 -- the bit of a hash that is contained is set, and no other
-found-one : TellsFound 1 1 (content (1 ∷ [])) (0 ∷ []) (1 ∷ [])
+found-one : TellsFoundInLines 1 1 (content (1 ∷ [])) (0 ∷ []) (1 ∷ [])
 unfolding content are_in chain
 found-one =
     let F : ℕ → Bool = λ i. are_in_line 1 1 (slice_index (0 ∷ []) i) (content (1 ∷ [])) in
@@ -150,34 +150,34 @@ found-one =
     (word-where 0 0 true 1 (lit< tt) refl)
 
 -- a hash that is contained has its bit set, one that isn't has it clear, and so has no hash
-found-missing : TellsFound 1 1 (content (1 ∷ [])) (0 ∷ []) (0 ∷ []) → ⊥
+found-missing : TellsFoundInLines 1 1 (content (1 ∷ [])) (0 ∷ []) (0 ∷ []) → ⊥
 unfolding content are_in chain
 found-missing told = both_ways false refl (told 0)
 
-found-other : TellsFound 1 1 (content (2 ∷ [])) (0 ∷ []) (1 ∷ []) → ⊥
+found-other : TellsFoundInLines 1 1 (content (2 ∷ [])) (0 ∷ []) (1 ∷ []) → ⊥
 unfolding content are_in chain
 found-other told = both_ways false refl (sym (told 0))
 
-found-past : TellsFound 1 1 (content (1 ∷ [])) (0 ∷ []) (3 ∷ []) → ⊥
+found-past : TellsFoundInLines 1 1 (content (1 ∷ [])) (0 ∷ []) (3 ∷ []) → ⊥
 unfolding content are_in chain
 found-past told = both_ways false refl (sym (told 1))
 
 -- of a hash that comes twice the first is new
-new-first : TellsNew 1 1 (content (0 ∷ [])) (0 ∷ 0 ∷ []) (1 ∷ [])
+new-first : TellsNewInLines 1 1 (content (0 ∷ [])) (0 ∷ 0 ∷ []) (1 ∷ [])
 unfolding content are_in positions chain
 new-first =
     let F : ℕ → Bool = λ i. not (are_in_line 1 1 (slice_index (0 ∷ 0 ∷ []) i)
-    (after_first 1 1 (content (0 ∷ [])) (0 ∷ 0 ∷ []) i)) in
+    (lines_after 1 1 (content (0 ∷ [])) (0 ∷ 0 ∷ []) i)) in
     bits-next F (content (1 ∷ [])) (content (1 ∷ [])) 1
     (bits-next F (content (0 ∷ [])) (content (1 ∷ [])) 0 (no-bit F)
     (word-where 0 0 true 1 (lit< tt) refl))
     (word-where 1 1 false 0 (lit< tt) refl)
 
 -- a hash that isn't contained is new, and the second time it isn't
-new-missing : TellsNew 1 1 (content (0 ∷ [])) (0 ∷ 0 ∷ []) (0 ∷ []) → ⊥
+new-missing : TellsNewInLines 1 1 (content (0 ∷ [])) (0 ∷ 0 ∷ []) (0 ∷ []) → ⊥
 unfolding content are_in positions chain
 new-missing told = both_ways false refl (told 0)
 
-new-twice : TellsNew 1 1 (content (0 ∷ [])) (0 ∷ 0 ∷ []) (3 ∷ []) → ⊥
+new-twice : TellsNewInLines 1 1 (content (0 ∷ [])) (0 ∷ 0 ∷ []) (3 ∷ []) → ⊥
 unfolding content are_in positions chain
 new-twice told = both_ways false refl (sym (told 1))

@@ -14,8 +14,9 @@ use Rattle.bloom_steps.specs.declared.steps.vocabulary.Step.TheVariants.{Or}
 use Rattle.bloom_steps.specs.Courses.{Course, party_of, records_of}
 use Rattle.bloom_steps.specs.Moments.{IsFinished, turns_on}
 use Rattle.bloom_steps.specs.Scripts.{Taken}
-use Rattle.bloom_blocked.specs.LineCourses.{CarriedOut, IsLineCourse, IsLineScript, MadeBetween}
-use Rattle.bloom_blocked.proofs.CarriedLemmas.{or-found, or-only}
+use Rattle.bloom_steps.specs.Carried.{CarriedOut, IsCourseOf, MadeBetween}
+use Rattle.bloom_steps.proofs.CourseLemmas.{carried-finds, or-parts, set-by}
+use Rattle.bloom_blocked.specs.LineCourses.{IsLineScript}
 use Rattle.bloom_blocked.proofs.LineCourseLaws.{line_course_law}
 use Rattle.bloom_blocked.proofs.LineScriptFacts.{one-step, sets}
 
@@ -35,7 +36,7 @@ twins-carried second = (lit< tt, (0, refl), (lit< tt, (0, refl), refl))
 
 -- the script of a call in the course
 abbrev HasScript : Bool → ℕ → Call → ℕ → ℕ → Type 0
-HasScript second party call began last = (s : List Taken) × IsLineScript 1 1 call s
+HasScript second party call began last = (s : List Taken) × IsLineScript 8 1 call s
     × MadeBetween (twins second) party began last s
 
 -- the first insert
@@ -100,7 +101,7 @@ twins-calls party call began last ended fin = by began last fin.begins fin.ends.
     by (suc (suc (suc (suc b)))) l e x f h o = absurd (none-some _ e)
 
 -- they are a course of a blocked filter
-twins-course : IsLineCourse 1 1 (twins true)
+twins-course : IsCourseOf 8 (IsLineScript 8 1) (twins true)
 twins-course = record {
   count = refl;
   carried = twins-carried true;
@@ -134,10 +135,10 @@ second-finished reply = record {
     ran (suc (suc (suc m))) d l u x f e = absurd (omega (arith, u))
 
 -- where both return false they are no such course: the second set nothing
-twins-false : IsLineCourse 1 1 (twins false) → ⊥
+twins-false : IsCourseOf 8 (IsLineScript 8 1) (twins false) → ⊥
 unfolding content
 twins-false course =
-    let turns = ((line_course_law 1 1 (twins false) course).inserts 1 0 1 3 false
+    let turns = ((line_course_law 8 1 (twins false) course).inserts 1 0 1 3 false
     (second-finished false)).0 refl in
     no-turn turns.m turns.p turns.later turns.upto turns.ended turns.own.step turns.own.found
     turns.own.here turns.on
@@ -150,9 +151,11 @@ twins-false course =
     no-turn (suc (suc zero)) p l u d x f e on =
         omega (arith, ap party_of (same_Some _ _ e))
     no-turn (suc (suc (suc zero))) p l u d x f e on =
-        let (inw, set, off) =
-        or-only (twins false) (twins-carried false) 3 1 0 1 1 (Answer false) refl p on in
+        let t : Taken = record { step = Or 0 1; found = 1; ended = Answer false } in
+        let (sets, off) = set-by (twins false) 3 1 t refl (0, 1, refl) p on in
+        let (inw, set) = or-parts 0 1 p sets in
         let found =
-        or-found (twins false) (twins-carried false) 3 1 0 1 1 (Answer false) refl p inw in
+        carried-finds (twins false) (twins-carried false) 3 1 (Or 0 1) 1 (Answer false) refl p inw
+        in
         both_ways (bit_is_on 1 p) (found ∙ off) set
     no-turn (suc (suc (suc (suc m)))) p l u d x f e on = omega (arith, u)

@@ -1,135 +1,181 @@
--- What every interleaving of the calls on a blocked filter gives.
-use Rattle.std.proofs.Common.{◌*◌, ◌+◌, ◌-◌, ◌<◌, ◌∙◌, ◌≡◌, ◌≤◌, ap, arith, false, lit<, subst, sym, true, ℕ}
+-- The calls on a blocked filter are of a kind: an insert sets the positions of its hash, and a
+-- look-up loads their words. So every interleaving of them gives what it gives for each kind.
+use Rattle.std.proofs.Common.{◌%◌, ◌*◌, ◌+◌, ◌-◌, ◌/◌, ◌∙◌, ◌≡◌, Bool, List, ap, arith, lit<, map, refl, subst, sym, true, ℕ}
+use Rattle.std.proofs.lemmas.List.{length-map}
+use Rattle.bloom_parts.specs.Content.{bit_is_on}
 use Rattle.bloom_parts.specs.Places.{place, positions}
-use Rattle.bloom_parts.proofs.PublishedLemmas.{are_in-off, place-position, position-to}
-use Rattle.bloom_steps.specs.declared.steps.vocabulary.Call.TheVariants.{Contains, Insert}
+use Rattle.bloom_parts.proofs.PublishedLemmas.{are_in-off, range_law}
+use Rattle.bloom_steps.specs.declared.steps.vocabulary.Call.TheVariants.{Contains}
 use Rattle.bloom_steps.specs.declared.steps.vocabulary.End.TheVariants.{Answer}
+use Rattle.bloom_steps.specs.declared.steps.vocabulary.Step.TheVariants.{Load}
+use Rattle.bloom_steps.specs.ByWords.{IsThere, Lacks, SetsByWords, SetsItsPart}
+use Rattle.bloom_steps.specs.Carried.{IsCourseOf}
+use Rattle.bloom_steps.specs.CourseLaws.{CourseTells}
 use Rattle.bloom_steps.specs.Courses.{Course}
-use Rattle.bloom_steps.specs.Interleavings.{InsertsTell}
-use Rattle.bloom_steps.specs.Moments.{moment}
-use Rattle.bloom_steps.proofs.CourseLemmas.{not_turned_off, persists, are_in-all, both_alike}
-use Rattle.bloom_blocked.specs.Lines.{are_in_line, in_line, inner_of, line_of, line_positions}
-use Rattle.bloom_blocked.specs.LineCourses.{ContainsTellInLine, FindsInsertedInLine, IsLineCourse, LineCourseLaw, MadeBetween, NoneOfLineTurnedOff}
-use Rattle.bloom_blocked.proofs.CarriedLemmas.{carried-bits}
-use Rattle.bloom_blocked.proofs.LineGrowLemmas.{ends-with-inserts}
-use Rattle.bloom_blocked.proofs.LineInsertLemmas.{insert-covers, insert-tells}
-use Rattle.bloom_blocked.proofs.LineLookUpLemmas.{found-on, last-below, last-look, last-tells}
-use Rattle.bloom_blocked.proofs.LineTakeLemmas.{loses-no-position, takes-what-is-there}
-use Rattle.bloom_blocked.proofs.LineLemmas.{inner-fits, place-below}
-use Rattle.bloom_blocked.proofs.PositionLemmas.{moved}
+use Rattle.bloom_steps.specs.LiveSteps.{step_from}
+use Rattle.bloom_steps.specs.Scripts.{Any, IsScript, Taken}
+use Rattle.bloom_steps.specs.Steps.{step_decides, word_index}
+use Rattle.bloom_steps.proofs.CourseLemmas.{FoundOff, InsertSteps, Kind, LookSteps, Sets, are_in-all, course_tells, or-parts, or-sets, union-steps}
+use Rattle.bloom_blocked.specs.LineCourses.{IsLineScript, taken_from}
+use Rattle.bloom_blocked.specs.Lines.{are_in_line, in_line, inner_of, line_of, line_place, line_positions}
+use Rattle.bloom_blocked.proofs.LineLemmas.{inner-fits}
+use Rattle.bloom_blocked.proofs.MovedLemmas.{bit-moved, each-moved, map-get, map-got}
+use Rattle.bloom_blocked.proofs.PositionLemmas.{line_positions_law, moved, parts-of}
 
--- a position of the inner hash is one of the hash, at its line
-is-position : (lines k hash i : ℕ) → i < k
-    → (positions 512 k (inner_of hash) (place 512 (inner_of hash) i) ≡ true)
-    × (line_positions lines k hash (64 * (8 * line_of lines hash) + place 512 (inner_of hash) i)
-    ≡ true)
-is-position lines k hash i below =
-    let q = place 512 (inner_of hash) i in
-    let here = position-to 512 k (inner_of hash) q (place-position 512 k (inner_of hash) i below) in
-    let same : 512 * line_of lines hash + q ≡ 64 * (8 * line_of lines hash) + q = omega arith in (
-      here,
-      sym (ap (line_positions lines k hash) same)
-          ∙ moved lines k hash q (place-below 512 (inner_of hash) i (lit< tt) (inner-fits hash))
-          here,
-    )
+-- steps in eight words, which lie in the line of a hash
+module _ (lines k hash : ℕ) (inside : List Taken) where
+  -- the first word of the line
+  abbrev start : ℕ
+  start = 8 * line_of lines hash
 
--- a course of a blocked filter
-module _ (lines k : ℕ) (run : Course) (course : IsLineCourse lines k run) where
-  -- a position that is set stays set where none of its hash is cleared
-  stays : (hash first last m i : ℕ) → i < k → first ≤ m → m ≤ last
-      → NoneOfLineTurnedOff lines k run hash first last
-      → moment run m (64 * (8 * line_of lines hash) + place 512 (inner_of hash) i) ≡ true
-      → moment run last (64 * (8 * line_of lines hash) + place 512 (inner_of hash) i) ≡ true
-  stays hash first last m i below early late calm on =
-      let p = 64 * (8 * line_of lines hash) + place 512 (inner_of hash) i in
-      persists run p m (last - m) last (omega (arith, late)) on
-      (λ j l u turns.
-      not_turned_off run j p
-      (calm j p (omega (arith, early, l)) (omega (arith, u)) (is-position lines k hash i below).1)
-      turns)
+  -- the positions of the inner hash
+  abbrev A : ℕ → Bool
+  A = positions 512 k (inner_of hash)
 
-  -- an insert tells of its own steps
-  inserts : InsertsTell run
-  inserts party hash began last answer fin =
-      let (s, (inside, is, moved_there), own) =
-      course.calls party (Insert hash) began last (Answer answer) fin in
-      insert-tells run course.carried party began last (8 * line_of lines hash)
-      (positions 512 k (inner_of hash)) inside is
-      (subst (λ l. MadeBetween run party began last l) moved_there own)
-      (Insert hash) answer fin
+  -- a step, moved, turns on its positions
+  sets-moved : (t : Taken) (q : ℕ) → SetsItsPart A t.step → IsThere A t.step q
+      → Sets (step_from start t.step) (64 * start + q)
+  sets-moved t q part there =
+      let at = there.at in
+      ap (λ x. step_decides (step_from start x) (64 * start + q)) part.is
+      ∙ or-sets (start + word_index t.step) part.mask (64 * start + q) (omega arith)
+      (bit-moved part.mask start q ∙ part.part.bits q there.at ∙ there.within)
 
-  -- a finished insert is found
-  found : FindsInsertedInLine lines k run
-  found hash inserter first done ended ins party began last answer fin before calm =
-      let start = 8 * line_of lines hash in
-      let A = positions 512 k (inner_of hash) in
-      let (s, (inside, is, moved_there), own) =
-      course.calls inserter (Insert hash) first done ended ins in
-      let (r, (within, looks, moved_here), mine) =
-      course.calls party (Contains hash) began last (Answer answer) fin in
-      let mine_here = subst (λ l. MadeBetween run party began last l) moved_here mine in
-      let look =
-      last-look run course.carried k (inner_of hash) party began last start within looks
-      mine_here (Contains hash) answer fin in
-      let below =
-      last-below run course.carried k (inner_of hash) party began last start within looks
-      mine_here (Contains hash) answer fin in
-      let (m, later, upto, on) =
-      insert-covers run course.carried inserter first done start A inside is
-      (subst (λ l. MadeBetween run inserter first done l) moved_there own)
-      (place 512 (inner_of hash) look.i) (is-position lines k hash look.i below).0 in
-      let order = fin.order in
-      last-tells run course.carried k (inner_of hash) party began last start within looks
-      mine_here (Contains hash) answer fin
-      ∙ stays hash first last (m + 1) look.i below (omega arith) (omega arith) calm on
+  -- and no others
+  sets-back : (t : Taken) (p : ℕ) → SetsItsPart A t.step → Sets (step_from start t.step) p
+      → (q : ℕ) × IsThere A t.step q × (64 * start + q ≡ p)
+  sets-back t p part sets =
+      let (inw, on) =
+      or-parts (start + word_index t.step) part.mask p
+      (sym (ap (λ x. step_decides (step_from start x) p) part.is) ∙ sets) in
+      let q = p - 64 * start in
+      let whole : 64 * start + q ≡ p = omega (arith, inw) in
+      let atq : q / 64 ≡ word_index t.step = omega (arith, inw) in (
+        q,
+        record {
+          at = atq;
+          within = sym (part.part.bits q atq) ∙ sym (bit-moved part.mask start q)
+              ∙ ap (bit_is_on part.mask) whole ∙ on;
+        },
+        whole,
+      )
 
-  -- a look-up is right at the moment of its last load
-  contains : ContainsTellInLine lines k run
-  contains party hash began last answer fin =
-      let start = 8 * line_of lines hash in
-      let inner = inner_of hash in
-      let (r, (within, looks, moved_here), mine) =
-      course.calls party (Contains hash) began last (Answer answer) fin in
-      let mine_here = subst (λ l. MadeBetween run party began last l) moved_here mine in
-      let look =
-      last-look run course.carried k inner party began last start within looks mine_here
-      (Contains hash) answer fin in
-      let below =
-      last-below run course.carried k inner party began last start within looks mine_here
-      (Contains hash) answer fin in
-      let line = line_of lines hash in
-      let B = in_line (moment run last) line in
-      let same : (q : ℕ) → 512 * line + q ≡ 64 * start + q = λ q. omega arith in
-      let lacks : answer ≡ false → are_in_line lines k hash (moment run last) ≡ false = λ off.
-      are_in-off 512 k inner B look.i below
-      (ap (moment run last) (same (place 512 inner look.i))
-      ∙ sym (last-tells run course.carried k inner party began last start within looks mine_here
-      (Contains hash) answer fin)
-      ∙ off) in
-      let order = fin.order in
+  -- a step that found a position clear did so where it was moved
+  off-moved : SetsByWords A inside → Any inside (λ i t. Lacks A t)
+      → Any (map (taken_from start) inside) (λ i t. FoundOff t)
+  off-moved is (i, t, g, (q, there, off)) = (
+    i,
+    taken_from start t,
+    map-get (taken_from start) inside i t g,
+    (64 * start + q, sets-moved t q (is.steps i t g) there, bit-moved t.found start q ∙ off),
+  )
+
+  -- a moved step that found a position clear did so where it was
+  off-back : SetsByWords A inside → Any (map (taken_from start) inside) (λ i t. FoundOff t)
+      → Any inside (λ i t. Lacks A t)
+  off-back is (i, t, g, off) =
+      let (u, here, same) = map-got (taken_from start) inside i t g in
+      let (p, sets, clear) = subst FoundOff (sym same) off in
+      let (q, there, whole) = sets-back u p (is.steps i u here) sets in
+      let was = sym (bit-moved u.found start q) ∙ ap (bit_is_on u.found) whole ∙ clear in
+      (i, u, here, (q, there, was))
+
+  -- the steps of an insert by words turn on the positions of the hash
+  insert-steps : SetsByWords A inside
+      → InsertSteps (λ p. line_positions lines k hash p ≡ true) (map (taken_from start) inside)
+  insert-steps is =
+      let f = taken_from start in
+      let long = length-map inside f in
       record {
-        within = record { after = omega arith; upto = omega arith };
-        undisturbed = λ calm.
-            both_alike answer (are_in_line lines k hash (moment run last))
-            (λ hit.
-            are_in-all 512 k inner B (λ i few.
-            let (m, later, upto, on) =
-            found-on run course.carried k inner party began last start within looks mine_here
-            (Contains hash) answer fin hit i few in
-            ap (moment run last) (same (place 512 inner i))
-            ∙ stays hash (began + 1) last m i few (omega (arith, later)) upto calm on))
-            lacks;
-        off = lacks;
+        masks = each-moved f inside _ (λ i t g.
+            let part = is.steps i t g in
+            (start + word_index t.step, part.mask, ap (step_from start) part.is));
+        only = each-moved f inside _ (λ i t g p sets.
+            let (q, there, whole) = sets-back t p (is.steps i t g) sets in
+            let at : p ≡ 512 * line_of lines hash + q = omega (arith, whole) in
+            ap (line_positions lines k hash) at
+            ∙ moved lines k hash q
+            (range_law 512 k (inner_of hash) q (lit< tt) (inner-fits hash) there.within)
+            there.within);
+        all = λ p on.
+            let parts = parts-of lines k hash p on in
+            let (i, t, g, at) = is.all (p % 512) parts.1 in
+            let whole : 64 * start + p % 512 ≡ p = omega (arith, parts.0) in (
+              i,
+              f t,
+              map-get f inside i t g,
+              ap (step_decides (step_from start t.step)) (sym whole)
+                  ∙ sets-moved t (p % 512) (is.steps i t g)
+                  (record { at = sym at; within = parts.1 }),
+            );
+        running = each-moved f inside _ (λ i t g short.
+            is.running i t g (omega (arith, short, long)));
+        last = each-moved f inside _ (λ i t g closes.
+            let (reply, ends, tells) = is.last i t g (closes ∙ long) in (
+              reply,
+              ends,
+              ((λ no. off-moved is (tells.0 no)), (λ some. tells.1 (off-back is some))),
+            ));
       }
 
--- what every interleaving gives
-pub line_course_law : LineCourseLaw
-line_course_law lines k run course = record {
-  bits = λ p. carried-bits run.start run.records run.words p course.carried;
-  inserts = inserts lines k run course;
-  found = found lines k run course;
-  contains = contains lines k run course;
-  grows = ends-with-inserts lines k run course;
-  kept = loses-no-position lines k run course;
-  taken = takes-what-is-there lines k run course;
+  -- a bit of a word is the same at the position of the hash
+  at-place : (x i : ℕ)
+      → bit_is_on x (line_place lines hash i) ≡ bit_is_on x (place 512 (inner_of hash) i)
+  at-place x i =
+      let q = place 512 (inner_of hash) i in
+      let same : line_place lines hash i ≡ 64 * start + q = omega arith in
+      ap (bit_is_on x) same ∙ bit-moved x start q
+
+  -- the steps of a look-up of the inner hash load the words of the positions of the hash
+  look-steps : IsScript 8 k (Contains (inner_of hash)) inside
+      → LookSteps k (line_place lines hash) (map (taken_from start) inside)
+  look-steps is =
+      let f = taken_from start in
+      let long = length-map inside f in
+      let count = is.count in
+      record {
+        count = omega (arith, long);
+        steps = each-moved f inside _ (λ i t g.
+            let q = place 512 (inner_of hash) i in
+            let word : start + q / 64 ≡ line_place lines hash i / 64 = omega arith in
+            ap (step_from start) (is.steps i t g) ∙ ap Load word);
+        earlier = each-moved f inside _ (λ i t g short.
+            at-place t.found i ∙ is.stops.earlier i t g (omega (arith, short, long)));
+        early = each-moved f inside _ (λ i t g closes less.
+            at-place t.found i ∙ is.stops.early i t g (closes ∙ long) less);
+        running = each-moved f inside _ (λ i t g short.
+            is.running i t g (omega (arith, short, long)));
+        last = each-moved f inside _ (λ i t g closes.
+            let end = closes ∙ long in
+            is.last i t g end i t g end ∙ ap (λ b. Answer b) (sym (at-place t.found i)));
+      }
+
+-- the calls on a blocked filter
+abbrev lined : ℕ → ℕ → Kind
+lined words k = record {
+  Script = IsLineScript words k;
+  hashes = k;
+  place = line_place (words / 8);
+  Positions = λ hash p. line_positions (words / 8) k hash p ≡ true;
+  is_in = are_in_line (words / 8) k;
+  inserts = λ hash s is.
+      subst (InsertSteps (λ p. line_positions (words / 8) k hash p ≡ true)) (sym is.2)
+      (insert-steps (words / 8) k hash is.0 is.1);
+  look_ups = λ hash s is.
+      subst (LookSteps k (line_place (words / 8) hash)) (sym is.2)
+      (look-steps (words / 8) k hash is.0 is.1);
+  unions = union-steps words k;
+  takes = λ s is. is.steps;
+  members = λ hash i below.
+      (line_positions_law (words / 8) k hash (line_place (words / 8) hash i)).1
+      (record { index = i; below = below; here = refl });
+  all = λ hash B all. are_in-all 512 k (inner_of hash) (in_line B (line_of (words / 8) hash)) all;
+  off = λ hash B i below lacks.
+      are_in-off 512 k (inner_of hash) (in_line B (line_of (words / 8) hash)) i below lacks;
 }
+
+-- what every interleaving gives
+pub line_course_law : (words k : ℕ) (run : Course) → IsCourseOf words (IsLineScript words k) run
+    → CourseTells (λ hash p. line_positions (words / 8) k hash p ≡ true)
+    (are_in_line (words / 8) k) run
+line_course_law words k = course_tells (lined words k) words

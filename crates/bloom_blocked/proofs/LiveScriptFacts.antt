@@ -19,7 +19,7 @@ use Rattle.bloom_steps.specs.Steps.{load_at}
 use Rattle.bloom_blocked.specs.LineCourses.{IsMadeAsScript, taken_from}
 use Rattle.bloom_blocked.specs.Lines.{inner_of, line_of}
 use Rattle.bloom_blocked.proofs.LineScriptFacts.{one-step, only, sets, zeroth, zeroth-only}
-use Rattle.bloom_blocked.proofs.OwnStepLemmas.{map-got}
+use Rattle.bloom_blocked.proofs.MovedLemmas.{map-got}
 
 -- a step that loads the word of the position
 abbrev loads : ℕ → Bool → Taken

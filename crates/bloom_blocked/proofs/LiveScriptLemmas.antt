@@ -4,13 +4,14 @@ use Rattle.std.proofs.lemmas.Bool.{both_ways}
 use Rattle.std.proofs.lemmas.List.{length-map}
 use Rattle.std.proofs.lemmas.Option.{none-some, same_Some}
 use Rattle.bloom_parts.specs.Made.{SharedWords}
+use Rattle.bloom_steps.specs.declared.steps.vocabulary.Call.TheVariants.{Contains, Insert}
 use Rattle.bloom_steps.specs.declared.steps.vocabulary.End.{End}
 use Rattle.bloom_steps.specs.declared.steps.vocabulary.End.TheVariants.{Answer, Done, Running}
 use Rattle.bloom_steps.specs.LiveSteps.{IsMade, IsMadeFrom}
 use Rattle.bloom_steps.specs.Scripts.{Last, Linked, Taken, answer_of, answer_of_end}
-use Rattle.bloom_blocked.specs.LineCourses.{LiveScriptLaw, taken_from}
-use Rattle.bloom_blocked.specs.LineSteps.{SetsInLine, start_of}
-use Rattle.bloom_blocked.proofs.OwnStepLemmas.{map-got}
+use Rattle.bloom_blocked.specs.LineCourses.{IsMadeAsScript, taken_from}
+use Rattle.bloom_blocked.specs.LineSteps.{LooksInLine, SetsInLine, start_of}
+use Rattle.bloom_blocked.proofs.MovedLemmas.{each-moved}
 
 -- steps that were made on a line were made on all words
 made-moved : (vector : SharedWords) (start first last : ℕ) (s : List Taken)
@@ -40,10 +41,9 @@ last-answer (u ∷ (v ∷ rest)) reply e (suc i) t got closes =
 -- how the last step ended stays where steps are moved
 last-moved : (start : ℕ) (s : List Taken) (end : End) → Last s (λ i t. t.ended ≡ end)
     → Last (map (taken_from start) s) (λ i t. t.ended ≡ end)
-last-moved start s end ends i t got closes =
-    let (u, here, same) = map-got (taken_from start) s i t got in
-    ap (λ (v : Taken). v.ended) (sym same)
-    ∙ ends i u here (closes ∙ length-map s (taken_from start))
+last-moved start s end ends =
+    each-moved (taken_from start) s _ (λ i t g closes.
+    ends i t g (closes ∙ length-map s (taken_from start)))
 
 -- two replies that are false in the same case are the same
 same-reply : (a b : Bool) {P : Type 0} → ((a ≡ false) ↔ P) → ((b ≡ false) ↔ P) → a ≡ b
@@ -60,7 +60,9 @@ insert-ends vector k hash reply did i t got closes =
     ended ∙ ap Answer (same-reply told reply tells did.answers)
 
 -- what live calls promise is what a course asks
-pub live_script_law : LiveScriptLaw
+pub live_script_law : (vector : SharedWords) (k hash : ℕ) (reply : Bool)
+    → (SetsInLine vector k hash reply → IsMadeAsScript vector k (Insert hash) reply)
+    × (LooksInLine vector k hash reply → IsMadeAsScript vector k (Contains hash) reply)
 live_script_law vector k hash reply = (
   (λ did. record {
     steps = map (taken_from (start_of vector hash)) did.taken;

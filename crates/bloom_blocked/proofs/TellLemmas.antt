@@ -8,7 +8,7 @@ use Rattle.std.proofs.lemmas.List.Folds.{list_any-append}
 use Rattle.bloom_parts.specs.Content.{content}
 use Rattle.bloom_parts.proofs.PublishedLemmas.{content-zeros}
 use Rattle.bloom_blocked.specs.Lines.{line_positions, are_in_line}
-use Rattle.bloom_blocked.specs.Many.{positions_of_all, all_are_in_lines, after_first, TellsFound, TellsNew}
+use Rattle.bloom_blocked.specs.Many.{positions_in_lines, all_are_in_lines, lines_after, TellsFoundInLines, TellsNewInLines}
 use Rattle.bloom_blocked.proofs.BitLemmas.{bits-next, bits-word, word-where}
 use Rattle.bloom_blocked.proofs.ManyLemmas.{many-stretch}
 use Rattle.bloom_blocked.proofs.PositionLemmas.{line-greater}
@@ -42,7 +42,8 @@ module _ (hashes : List ℕ) (at n v : ℕ) (fits : at + n ≤ length hashes) wh
 
   -- bits that tell of a part's look-ups tell of those of these places among all
   pub found-part : (lines k : ℕ) (A : ℕ → Bool)
-      → TellsFound lines k A (take n (drop at hashes)) (v ∷ []) → (q : ℕ) → content (v ∷ []) q
+      → TellsFoundInLines lines k A (take n (drop at hashes)) (v ∷ []) → (q : ℕ)
+      → content (v ∷ []) q
       ≡ (nat_lt q n && are_in_line lines k (slice_index hashes (at + q)) A)
   found-part lines k A told q =
       let part = take n (drop at hashes) in
@@ -56,30 +57,30 @@ module _ (hashes : List ℕ) (at n v : ℕ) (fits : at + n ≤ length hashes) wh
 
   -- the set after the first hashes of a part is that after these of all
   after-part : (lines k : ℕ) (A B : ℕ → Bool) (q : ℕ) → q ≤ n
-      → ((p : ℕ) → B p ≡ after_first lines k A hashes at p)
-      → (p : ℕ) → after_first lines k B (take n (drop at hashes)) q p
-      ≡ after_first lines k A hashes (at + q) p
+      → ((p : ℕ) → B p ≡ lines_after lines k A hashes at p)
+      → (p : ℕ) → lines_after lines k B (take n (drop at hashes)) q p
+      ≡ lines_after lines k A hashes (at + q) p
   after-part lines k A B q within before =
       let upto : q ≡ at + q - at = omega arith in
-      many-stretch lines k A B (after_first lines k B (take n (drop at hashes)) q) hashes at
+      many-stretch lines k A B (lines_after lines k B (take n (drop at hashes)) q) hashes at
       (at + q) (omega arith) before
-      (λ p. ap (λ l. B p || positions_of_all lines k l p)
+      (λ p. ap (λ l. B p || positions_in_lines lines k l p)
       (take-of-take q n (drop at hashes) within ∙ ap (λ j. take j (drop at hashes)) upto))
 
   -- bits that tell which hashes of a part are new tell it of these among all
   pub new-part : (lines k : ℕ) (A B : ℕ → Bool)
-      → ((p : ℕ) → B p ≡ after_first lines k A hashes at p)
-      → TellsNew lines k B (take n (drop at hashes)) (v ∷ []) → (q : ℕ) → content (v ∷ []) q
+      → ((p : ℕ) → B p ≡ lines_after lines k A hashes at p)
+      → TellsNewInLines lines k B (take n (drop at hashes)) (v ∷ []) → (q : ℕ) → content (v ∷ []) q
       ≡ (nat_lt q n && not (are_in_line lines k (slice_index hashes (at + q))
-      (after_first lines k A hashes (at + q))))
+      (lines_after lines k A hashes (at + q))))
   new-part lines k A B before told q =
       let part = take n (drop at hashes) in
       told q ∙ elim (cases_lt q n) [
         | inl small ↦
-            let sets : after_first lines k B part q ≡ after_first lines k A hashes (at + q) =
+            let sets : lines_after lines k B part q ≡ lines_after lines k A hashes (at + q) =
             λ i p. after-part lines k A B q (omega (arith, small)) before p i in
             rw (lt-ltb q (length part) (omega (arith, long, small)), lt-ltb q n small)
-            (ap (λ h. not (are_in_line lines k h (after_first lines k B part q)))
+            (ap (λ h. not (are_in_line lines k h (lines_after lines k B part q)))
             (hash-of-part q small)
             ∙ ap (λ C. not (are_in_line lines k (slice_index hashes (at + q)) C)) sets)
         | inr large ↦
@@ -88,12 +89,12 @@ module _ (hashes : List ℕ) (at n v : ℕ) (fits : at + n ≤ length hashes) wh
 
 -- where all hashes are contained, none is new
 pub none-new : (lines k : ℕ) (A : ℕ → Bool) (hashes : List ℕ)
-    → all_are_in_lines lines k hashes A ≡ true → TellsNew lines k A hashes (0 ∷ [])
+    → all_are_in_lines lines k hashes A ≡ true → TellsNewInLines lines k A hashes (0 ∷ [])
 none-new lines k A hashes all i =
     content-zeros 1 i ∙ sym (elim (cases_lt i (length hashes)) [
       | inl within ↦
-          let held = line-greater lines k (slice_index hashes i) A (after_first lines k A hashes i)
-          (λ p on. or_left (A p) (positions_of_all lines k (take i hashes) p) on)
+          let held = line-greater lines k (slice_index hashes i) A (lines_after lines k A hashes i)
+          (λ p on. or_left (A p) (positions_in_lines lines k (take i hashes) p) on)
           (all-at (λ h. are_in_line lines k h A) hashes i all within) in
           rw (lt-ltb i (length hashes) within) (ap not held)
       | inr past ↦ rw (le-ltb i (length hashes) past) refl
@@ -101,9 +102,9 @@ none-new lines k A hashes all i =
 
 -- one more hash is inserted into what the first of these hashes set
 pub after-next : (lines k : ℕ) (A B C : ℕ → Bool) (hashes : List ℕ) (i : ℕ) → i < length hashes
-    → ((p : ℕ) → B p ≡ after_first lines k A hashes i p)
+    → ((p : ℕ) → B p ≡ lines_after lines k A hashes i p)
     → ((p : ℕ) → C p ≡ (B p || line_positions lines k (slice_index hashes i) p))
-    → (p : ℕ) → C p ≡ after_first lines k A hashes (i + 1) p
+    → (p : ℕ) → C p ≡ lines_after lines k A hashes (i + 1) p
 after-next lines k A B C hashes i within before step p =
     let on : ℕ → Bool = λ hash. line_positions lines k hash p in
     let first = take i hashes in
@@ -119,16 +120,16 @@ after-next lines k A B C hashes i within before step p =
 pub tells-next : (lines k : ℕ) (A B : ℕ → Bool) (hashes : List ℕ) (i fresh mask : ℕ) (was : Bool)
     → i < 64
     → ((p : ℕ) → content (fresh ∷ []) p ≡ (nat_lt p i && not (are_in_line lines k
-    (slice_index hashes p) (after_first lines k A hashes p))))
-    → ((p : ℕ) → B p ≡ after_first lines k A hashes i p)
+    (slice_index hashes p) (lines_after lines k A hashes p))))
+    → ((p : ℕ) → B p ≡ lines_after lines k A hashes i p)
     → was ≡ are_in_line lines k (slice_index hashes i) B
     → mask ≡ (if not was then 2 ^ i else 0)
     → (p : ℕ) → content (bit_or fresh mask ∷ []) p ≡ (nat_lt p (i + 1) && not (are_in_line lines k
-    (slice_index hashes p) (after_first lines k A hashes p)))
+    (slice_index hashes p) (lines_after lines k A hashes p)))
 tells-next lines k A B hashes i fresh mask was small before holds told is =
     let F : ℕ → Bool =
-    λ p. not (are_in_line lines k (slice_index hashes p) (after_first lines k A hashes p)) in
-    let same : was ≡ are_in_line lines k (slice_index hashes i) (after_first lines k A hashes i) =
+    λ p. not (are_in_line lines k (slice_index hashes p) (lines_after lines k A hashes p)) in
+    let same : was ≡ are_in_line lines k (slice_index hashes i) (lines_after lines k A hashes i) =
     told ∙ ap (are_in_line lines k (slice_index hashes i)) (λ j. λ p. holds p j) in
     bits-next F (content (fresh ∷ [])) _ i before
     (λ p. word-where fresh i (not was) mask small is p
@@ -140,7 +141,7 @@ module _ (hashes words : List ℕ) (turn end v lines k : ℕ) (A : ℕ → Bool)
   -- one more word of bits, which tell of 64 look-ups or fewer
   pub found-turn : ((p : ℕ) → content words p ≡ (nat_lt p (64 * turn) && (nat_lt p (length hashes)
       && are_in_line lines k (slice_index hashes p) A)))
-      → TellsFound lines k A (take (end - 64 * turn) (drop (64 * turn) hashes)) (v ∷ [])
+      → TellsFoundInLines lines k A (take (end - 64 * turn) (drop (64 * turn) hashes)) (v ∷ [])
       → (p : ℕ) → content (set words turn v) p
       ≡ (nat_lt p (64 * (turn + 1)) && (nat_lt p (length hashes)
       && are_in_line lines k (slice_index hashes p) A))
@@ -154,17 +155,17 @@ module _ (hashes words : List ℕ) (turn end v lines k : ℕ) (A : ℕ → Bool)
   -- one more word of bits, which tell of 64 inserts or fewer
   pub tells-turn : (B : ℕ → Bool)
       → ((p : ℕ) → content words p ≡ (nat_lt p (64 * turn) && (nat_lt p (length hashes)
-      && not (are_in_line lines k (slice_index hashes p) (after_first lines k A hashes p)))))
-      → ((p : ℕ) → B p ≡ after_first lines k A hashes (64 * turn) p)
-      → TellsNew lines k B (take (end - 64 * turn) (drop (64 * turn) hashes)) (v ∷ [])
+      && not (are_in_line lines k (slice_index hashes p) (lines_after lines k A hashes p)))))
+      → ((p : ℕ) → B p ≡ lines_after lines k A hashes (64 * turn) p)
+      → TellsNewInLines lines k B (take (end - 64 * turn) (drop (64 * turn) hashes)) (v ∷ [])
       → (p : ℕ) → content (set words turn v) p
       ≡ (nat_lt p (64 * (turn + 1)) && (nat_lt p (length hashes)
-      && not (are_in_line lines k (slice_index hashes p) (after_first lines k A hashes p))))
+      && not (are_in_line lines k (slice_index hashes p) (lines_after lines k A hashes p))))
   tells-turn B before first told =
       let n = end - 64 * turn in
       let fits : 64 * turn + n ≤ length hashes = omega (arith, ended, more) in
       bits-word
-      (λ p. not (are_in_line lines k (slice_index hashes p) (after_first lines k A hashes p)))
+      (λ p. not (are_in_line lines k (slice_index hashes p) (lines_after lines k A hashes p)))
       (length hashes) words turn n v within fits (λ few. omega (arith, ended, more, few))
       (omega (arith, ended)) before
       (new-part hashes (64 * turn) n v fits lines k A B first told)

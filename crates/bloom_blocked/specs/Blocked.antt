@@ -5,7 +5,7 @@ use Rattle.std.specs.Prelude.{◌≡◌, ℕ, ◌/◌, ◌%◌, ◌^◌, ◌<◌
 use Rattle.bloom_parts.specs.Content.{content}
 use Rattle.bloom_plain.specs.Filter.{Filter, SameShape}
 use Rattle.bloom_blocked.specs.Lines.{line_positions, are_in_line}
-use Rattle.bloom_blocked.specs.Many.{positions_of_all}
+use Rattle.bloom_blocked.specs.Many.{positions_in_lines}
 
 -- the shape of a blocked filter: whole lines of eight words, from 8 to 2^58 - 8 words, and from 1
 -- to 2^32 - 1 hashes
@@ -46,7 +46,7 @@ pub record InsertsInLine {S : Type 0} (old : Filter S) (hash : ℕ) (new : Filte
 pub record InsertsAllInLines {S : Type 0} (old : Filter S) (hashes : List ℕ) (new : Filter S)
     : Type 0 where
   pub bits : (p : ℕ) → content new.words p
-      ≡ (content old.words p || positions_of_all (num_lines_of old) old.hashes hashes p)
+      ≡ (content old.words p || positions_in_lines (num_lines_of old) old.hashes hashes p)
   pub shape : SameShape old new
   pub hasher : new.hasher ≡ old.hasher
 

@@ -7,7 +7,7 @@ use Rattle.std.proofs.lemmas.List.Folds.{list_any-append}
 use Rattle.bloom_parts.specs.Content.{content}
 use Rattle.bloom_plain.specs.Filter.{Filter}
 use Rattle.bloom_blocked.specs.Lines.{line_positions}
-use Rattle.bloom_blocked.specs.Many.{positions_of_all}
+use Rattle.bloom_blocked.specs.Many.{positions_in_lines}
 use Rattle.bloom_blocked.specs.Blocked.{num_lines_of, InsertsAllInLines}
 
 module _ {S : Type 0} (old : Filter S) where
@@ -26,9 +26,9 @@ module _ {S : Type 0} (old : Filter S) where
     bits = λ p.
         let on : ℕ → Bool = λ hash. line_positions (num_lines_of old) old.hashes hash p in
         second.bits p
-        ∙ ap (λ w. content mid.words p || positions_of_all (w / 8) mid.hashes ys p)
+        ∙ ap (λ w. content mid.words p || positions_in_lines (w / 8) mid.hashes ys p)
         (sym first.shape.words)
-        ∙ ap (λ k. content mid.words p || positions_of_all (num_lines_of old) k ys p)
+        ∙ ap (λ k. content mid.words p || positions_in_lines (num_lines_of old) k ys p)
         (sym first.shape.hashes)
         ∙ ap (λ b. b || list_any on ys) (first.bits p)
         ∙ or_assoc (content old.words p) (list_any on xs) (list_any on ys)

@@ -3,7 +3,6 @@ pub mod BlockedLaws
 pub mod BlockedSizing
 pub mod InsertLaws
 pub mod LineCourses
-pub mod LineEnds
 pub mod LineRates
 pub mod LineRefusals
 pub mod LineSteps

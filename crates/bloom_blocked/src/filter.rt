@@ -6,7 +6,7 @@ ghost use Rattle.bloom_plain.specs.Filter.{num_bits_of};
 ghost use Rattle.bloom_plain.specs.Ones.{ones_of};
 ghost use Rattle.bloom_blocked.specs.Blocked.{HasBlockedShape, contains_in_line, InsertsInLine, InsertsAllInLines, num_lines_of};
 ghost use Rattle.bloom_blocked.specs.LineRates.{BoundsLines, line_words};
-ghost use Rattle.bloom_blocked.specs.Many.{TellsFound, TellsNew};
+ghost use Rattle.bloom_blocked.specs.Many.{TellsFoundInLines, TellsNewInLines};
 
 mod items;
 mod sets;
@@ -171,7 +171,7 @@ impl<S> BlockedBloomFilter<S> {
     /// ```
     pub fn contains_hashes(&self, hashes: &[u64], found: &mut [u64])
         requires room { length hashes.now ≤ 64 * length found.old }
-        ensures found { TellsFound (num_lines_of self.now) self.now.hashes
+        ensures found { TellsFoundInLines (num_lines_of self.now) self.now.hashes
             (content self.now.words) hashes.now found.new }
         ensures shape { length found.new ≡ length found.old }
     {
@@ -183,7 +183,7 @@ impl<S> BlockedBloomFilter<S> {
     pub fn insert_hashes_tell_new(&mut self, hashes: &[u64], fresh: &mut [u64])
         requires room { length hashes.now ≤ 64 * length fresh.old }
         ensures inserts { InsertsAllInLines self.old hashes.now self.new }
-        ensures fresh { TellsNew (num_lines_of self.old) self.old.hashes
+        ensures fresh { TellsNewInLines (num_lines_of self.old) self.old.hashes
             (content self.old.words) hashes.now fresh.new }
         ensures shape { length fresh.new ≡ length fresh.old }
     {

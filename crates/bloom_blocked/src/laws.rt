@@ -1,7 +1,14 @@
 //! Laws of blocked filters. These functions do nothing: their contracts are the laws.
+ghost use Rattle.std.specs.Prelude.{ℕ, ◌/◌, ◌≡◌, Bool, true};
 ghost use Rattle.bloom_blocked.specs.BlockedLaws.{InsertInLineLaw, KeptByInsertInLineLaw, KeptByInsertsInLinesLaw, KeptByUnionOfLinesLaw, UnionOfLinesLaw, IntersectionOfLinesLaw, ClearOfLinesLaw, OneByOneLaw};
-ghost use Rattle.bloom_blocked.specs.LineCourses.{LineCourseLaw, LiveScriptLaw};
-ghost use Rattle.bloom_blocked.specs.Lines.{LinePositionsLaw, LineSubsetLaw, LineRangeLaw, OneLineLaw};
+ghost use Rattle.bloom_blocked.specs.LineCourses.{IsLineScript, IsMadeAsScript};
+ghost use Rattle.bloom_blocked.specs.LineSteps.{LooksInLine, SetsInLine};
+ghost use Rattle.bloom_blocked.specs.Lines.{LinePositionsLaw, LineSubsetLaw, LineRangeLaw, OneLineLaw, are_in_line, line_positions};
+ghost use Rattle.bloom_parts.specs.Made.{SharedWords};
+ghost use Rattle.bloom_steps.specs.Carried.{IsCourseOf};
+ghost use Rattle.bloom_steps.specs.CourseLaws.{CourseTells};
+ghost use Rattle.bloom_steps.specs.Courses.{Course};
+ghost use Rattle.bloom_steps.specs.declared.steps.vocabulary.Call.TheVariants.{Contains, Insert};
 
 /// The positions of a hash are the first of its chain, all in one line, and within the lines.
 pub fn positions_of_hash()
@@ -38,11 +45,15 @@ pub fn union_contains<S>()
 /// In every interleaving of the calls on a shared blocked filter each bit is what the last step
 /// that decides it made it, an insert returns false exactly if it set a bit itself, a finished
 /// insert is found unless a position of it was cleared since it began, and a look-up is right at
-/// one moment.
-/// Inserts, look-ups and takes lose nothing. A live call is made as a script of such a course.
+/// one moment. Inserts, look-ups and takes lose nothing. A live insert or look-up is made as a
+/// script of such a course.
 pub fn interleavings_in_lines()
-    ensures courses { LineCourseLaw }
-    ensures live { LiveScriptLaw }
+    ensures courses { (words k : ℕ) (run : Course) → IsCourseOf words (IsLineScript words k) run
+        → CourseTells (λ hash p. line_positions (words / 8) k hash p ≡ true)
+        (are_in_line (words / 8) k) run }
+    ensures live { (vector : SharedWords) (k hash : ℕ) (reply : Bool)
+        → (SetsInLine vector k hash reply → IsMadeAsScript vector k (Insert hash) reply)
+        × (LooksInLine vector k hash reply → IsMadeAsScript vector k (Contains hash) reply) }
 {}
 
 /// After an intersection exactly the hashes are contained that both filters contained.

@@ -7,7 +7,7 @@ ghost use Rattle.std.specs.Prelude.{◌≡◌, ℕ, ◌+◌, ◌*◌, ◌/◌, �
 ghost use Rattle.bloom_parts.specs.Content.{content, index_of};
 ghost use Rattle.bloom_parts.specs.Places.{positions};
 ghost use Rattle.bloom_blocked.specs.Lines.{line_positions, are_in_line};
-ghost use Rattle.bloom_blocked.specs.Many.{positions_of_all, all_are_in_lines, TellsFound};
+ghost use Rattle.bloom_blocked.specs.Many.{positions_in_lines, all_are_in_lines, TellsFoundInLines};
 
 mod telling;
 
@@ -107,7 +107,7 @@ fn set_in_line(words: &mut [u64], num_hashes: u32, hash: u64, common: &mut u64)
 fn insert_each(words: &mut [u64], num_hashes: u32, hashes: &[u64]) -> bool
     requires { 8 ≤ length words.old }
     ensures content { (p : ℕ) → content words.new p ≡ (content words.old p
-        || positions_of_all (length words.old / 8) num_hashes hashes.now p) }
+        || positions_in_lines (length words.old / 8) num_hashes hashes.now p) }
     ensures shape { length words.new ≡ length words.old }
 {
     let mut common = u64::MAX;
@@ -123,7 +123,7 @@ fn insert_each(words: &mut [u64], num_hashes: u32, hashes: &[u64]) -> bool
 fn insert_unless_full(words: &mut [u64], num_hashes: u32, hashes: &[u64], look_up: bool) -> bool
     requires { 8 ≤ length words.old }
     ensures content { (p : ℕ) → content words.new p ≡ (content words.old p
-        || positions_of_all (length words.old / 8) num_hashes hashes.now p) }
+        || positions_in_lines (length words.old / 8) num_hashes hashes.now p) }
     ensures shape { length words.new ≡ length words.old }
 {
     let ends = words.len() >= WORDS_TO_READ_AHEAD && ends_are_full(words, hashes);
@@ -137,7 +137,7 @@ fn insert_unless_full(words: &mut [u64], num_hashes: u32, hashes: &[u64], look_u
 pub fn insert_hashes(words: &mut [u64], num_hashes: u32, hashes: &[u64])
     requires { 8 ≤ length words.old }
     ensures content { (p : ℕ) → content words.new p ≡ (content words.old p
-        || positions_of_all (length words.old / 8) num_hashes hashes.now p) }
+        || positions_in_lines (length words.old / 8) num_hashes hashes.now p) }
     ensures shape { length words.new ≡ length words.old }
 {
     let turns = hashes.len() / LINES_TOGETHER;
@@ -182,7 +182,7 @@ fn contains_either_way(words: &[u64], num_hashes: u32, hash: u64, stops: bool) -
 fn found_bits(words: &[u64], num_hashes: u32, hashes: &[u64], stops: bool) -> u64
     requires words { 8 ≤ length words.now }
     requires few { length hashes.now ≤ 64 }
-    ensures { TellsFound (length words.now / 8) num_hashes (content words.now) hashes.now
+    ensures { TellsFoundInLines (length words.now / 8) num_hashes (content words.now) hashes.now
         (result ∷ []) }
 {
     let mut found: u64 = 0;
@@ -199,7 +199,7 @@ fn found_bits(words: &[u64], num_hashes: u32, hashes: &[u64], stops: bool) -> u6
 fn find_word(words: &[u64], num_hashes: u32, hashes: &[u64]) -> u64
     requires words { 8 ≤ length words.now }
     requires few { length hashes.now ≤ 64 }
-    ensures { TellsFound (length words.now / 8) num_hashes (content words.now) hashes.now
+    ensures { TellsFoundInLines (length words.now / 8) num_hashes (content words.now) hashes.now
         (result ∷ []) }
 {
     if words.len() >= WORDS_TO_READ_AHEAD && ends_are_full(words, hashes) {
@@ -213,8 +213,8 @@ fn find_word(words: &[u64], num_hashes: u32, hashes: &[u64]) -> u64
 pub fn contains_hashes(words: &[u64], num_hashes: u32, hashes: &[u64], found: &mut [u64])
     requires words { 8 ≤ length words.now }
     requires room { length hashes.now ≤ 64 * length found.old }
-    ensures found { TellsFound (length words.now / 8) num_hashes (content words.now) hashes.now
-        found.new }
+    ensures found { TellsFoundInLines (length words.now / 8) num_hashes (content words.now)
+        hashes.now found.new }
     ensures shape { length found.new ≡ length found.old }
 {
     clear(found);

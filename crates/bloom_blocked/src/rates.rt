@@ -51,7 +51,7 @@ pub fn false_pos_of_lines(words: &[u64], num_hashes: u32) -> Bracket
     mean(low, high, lines)
 }
 
-// The words of a line, loaded one after the other.
+// The words of a line, as they were loaded.
 fn load_line<W: TurnWords>(words: &W, line: usize) -> [u64; LINE]
     requires words { 8 * line + 8 ≤ (W.vector words.now).count }
     requires few { (W.vector words.now).count < 2 ^ 58 }
@@ -64,7 +64,7 @@ fn load_line<W: TurnWords>(words: &W, line: usize) -> [u64; LINE]
     loaded
 }
 
-/// The same of words that threads share, as they were loaded, one after the other, each once.
+/// The same of words that threads share, as they were loaded.
 pub fn false_pos_of_shared_lines<W: TurnWords>(words: &W, num_hashes: u32) -> Bracket
     requires { 8 ≤ (W.vector words.now).count }
     ensures { let vector = W.vector words.now in

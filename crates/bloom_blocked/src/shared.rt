@@ -1,7 +1,7 @@
 //! The blocked Bloom filter that threads share, and change without waiting for one another.
-ghost use Rattle.std.specs.Prelude.{◌≡◌, ◌*◌, ◌≤◌, IfOk, IsOkUnless};
-ghost use Rattle.bloom_blocked.specs.SharedBlocked.{BeganAsLines, MakesInsertInLine, MakesLookUpInLine, WereInsertedInLines};
-ghost use Rattle.bloom_blocked.specs.LineSteps.{SetsInTurn, WasSetInLine};
+ghost use Rattle.std.specs.Prelude.{◌≡◌, ◌*◌, ◌/◌, ◌≤◌, IfOk, IsOkUnless};
+ghost use Rattle.bloom_blocked.specs.SharedBlocked.{BeganAsLines};
+ghost use Rattle.bloom_blocked.specs.LineSteps.{LooksInLine, SetsInLine, SetsInTurn, WasSetInLine, WereSetInLines};
 ghost use Rattle.bloom_steps.specs.LiveSteps.{EachInTurn};
 
 mod items;
@@ -74,6 +74,8 @@ impl<S> AtomicBlockedBloomFilter<S> {
     pub fn num_bits(&self) -> usize
         ensures value { result ≡ 64 * self.now.words.count }
         ensures least { 512 ≤ result }
+        // The words are whole lines.
+        ensures lines { self.now.words.count ≡ 8 * (self.now.words.count / 8) }
     {
         self.words.num_bits()
     }
@@ -90,7 +92,7 @@ impl<S> AtomicBlockedBloomFilter<S> {
     /// positions.
     #[inline(always)]
     pub fn insert_hash(&self, hash: u64) -> bool
-        ensures { MakesInsertInLine self.now hash result }
+        ensures { SetsInLine self.now.words self.now.hashes hash result }
     {
         line::set_in_line(&self.words.lent(), self.num_hashes.max(1), hash)
     }
@@ -101,7 +103,7 @@ impl<S> AtomicBlockedBloomFilter<S> {
     /// set may never have been set all at once.
     #[inline(always)]
     pub fn contains_hash(&self, hash: u64) -> bool
-        ensures { MakesLookUpInLine self.now hash result }
+        ensures { LooksInLine self.now.words self.now.hashes hash result }
     {
         line::looks_in_line(&self.words.lent(), self.num_hashes, hash)
     }
@@ -125,7 +127,7 @@ impl<S> AtomicBlockedBloomFilter<S> {
 
     /// Inserts hashes, in order.
     pub fn insert_hashes(&self, hashes: &[u64])
-        ensures { WereInsertedInLines self.now hashes.now }
+        ensures { WereSetInLines self.now.words self.now.hashes hashes.now }
     {
         line::insert_hashes(&self.words.lent(), self.num_hashes, hashes);
     }

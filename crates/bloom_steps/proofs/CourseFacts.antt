@@ -1,10 +1,12 @@
 pub mod Calls
+pub mod CarriedOut
 pub mod Carrying
 pub mod Commands
 pub mod Courses
 pub mod Endings
 pub mod Finding
 pub mod Finished
+pub mod FinishedCalls
 pub mod FoundBetween
 pub mod Gains
 pub mod Inserts
@@ -16,6 +18,7 @@ pub mod Premises
 pub mod Records
 pub mod Schedules
 pub mod TakeCourses
+pub mod TakenSince
 pub mod TakesBetween
 pub mod Takes
 pub mod Unfollowed

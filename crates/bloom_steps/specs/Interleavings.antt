@@ -1,8 +1,9 @@
 -- What every interleaving of word steps gives, that is every order of the steps of calls that
--- overlap. It is said of the finished course of a run. The theorems are this project's own.
+-- overlap. It is said of finished courses, of filters of any kind: `Positions` are those of a hash,
+-- and `is_in` is the test of a hash in a set. The theorems are this project's own.
 use Rattle.std.specs.Prelude.{ℕ, zero, suc, ◌+◌, ◌/◌, ◌≤◌, ◌<◌, ◌≡◌, ◌↔◌, ◌⊎◌, ◌&&◌, ◌==◌, Bool, true, false, not, Some, slice_get, bit_and, count_by, sum_by, take, length, if◌then◌else◌}
 use Rattle.bloom_parts.specs.Content.{bit_is_on, content}
-use Rattle.bloom_parts.specs.Places.{are_in, IsPosition}
+use Rattle.bloom_parts.specs.Places.{IsPosition}
 use Rattle.bloom_steps.specs.declared.steps.vocabulary.Step.TheVariants.{Load, Or, And, Zero, Other}
 use Rattle.bloom_steps.specs.declared.steps.vocabulary.Step.TheVariants as step
 use Rattle.bloom_steps.specs.declared.steps.vocabulary.Call.{Call}
@@ -57,27 +58,28 @@ InsertsTell run =
     → (answer ≡ false) ↔ TurnsOneOn run party began last
 
 -- at a moment of its span a look-up is the subset test if undisturbed; false is right anyway
-pub record IsRightAt (k : ℕ) (run : Course) (hash began last m : ℕ) (answer : Bool) : Type 0 where
+pub record IsRightAt (Positions : ℕ → ℕ → Type 0) (is_in : ℕ → (ℕ → Bool) → Bool) (run : Course)
+    (hash began last m : ℕ) (answer : Bool) : Type 0 where
   pub within : IsInSpan began last m
-  pub undisturbed : IsUndisturbed k run hash began last
-      → answer ≡ are_in (bits_of run) k hash (moment run m)
-  pub off : answer ≡ false → are_in (bits_of run) k hash (moment run m) ≡ false
+  pub undisturbed : IsUndisturbed (Positions hash) run began last
+      → answer ≡ is_in hash (moment run m)
+  pub off : answer ≡ false → is_in hash (moment run m) ≡ false
 
 -- a look-up is right at one moment, that of its last load
-abbrev pub ContainsTell : ℕ → Course → Type 0
-ContainsTell k run =
+abbrev pub ContainsTell : (ℕ → ℕ → Type 0) → (ℕ → (ℕ → Bool) → Bool) → Course → Type 0
+ContainsTell Positions is_in run =
     (party hash began last : ℕ) (answer : Bool)
     → IsFinished run party (Contains hash) began last (Answer answer)
-    → IsRightAt k run hash began last last answer
+    → IsRightAt Positions is_in run hash began last last answer
 
 -- a finished insert is found, where no record since its beginning cleared one of its positions
-abbrev pub FindsInserted : ℕ → Course → Type 0
-FindsInserted k run =
+abbrev pub FindsInserted : (ℕ → ℕ → Type 0) → Course → Type 0
+FindsInserted Positions run =
     (hash inserter first done : ℕ) (ended : End)
     → IsFinished run inserter (Insert hash) first done ended
     → (party began last : ℕ) (answer : Bool)
     → IsFinished run party (Contains hash) began last (Answer answer)
-    → done < began → NoneTurnedOff k run hash first last → answer ≡ true
+    → done < began → NoneTurnedOff (Positions hash) run first last → answer ≡ true
 
 -- how many numbers below a bound pass a test
 abbrev pub count_below : ℕ → (ℕ → Bool) → ℕ

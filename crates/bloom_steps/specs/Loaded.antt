@@ -1,5 +1,5 @@
--- The words of a vector that threads share, as they were loaded, one after the other, and how many
--- bits were set in them. This project's own.
+-- The words of a vector that threads share, as they were loaded, and how many bits were set in
+-- them. In which order they were loaded is left open. This project's own.
 use Rattle.std.specs.Prelude.{◌≡◌, ℕ, ◌*◌, ◌<◌, List, length, slice_get, Some}
 use Rattle.bloom_parts.specs.Content.{content}
 use Rattle.bloom_parts.specs.Counts.{count_on}

@@ -4,7 +4,6 @@
 -- this is said of the finished course, and is this project's own.
 use Rattle.std.specs.Prelude.{ℕ, ◌+◌, ◌*◌, ◌≤◌, ◌<◌, ◌≡◌, ◌≢◌, ◌&&◌, Bool, true, false, not, List, length, Some, slice_get, take}
 use Rattle.bloom_parts.specs.Content.{content}
-use Rattle.bloom_parts.specs.Places.{IsPosition}
 use Rattle.bloom_steps.specs.declared.steps.vocabulary.Step.{Step}
 use Rattle.bloom_steps.specs.declared.steps.vocabulary.Call.{Call}
 use Rattle.bloom_steps.specs.declared.steps.vocabulary.End.{End}
@@ -54,14 +53,14 @@ turns_on run m p = not (moment run m p) && moment run (m + 1) p
 abbrev pub turns_off : Course → ℕ → ℕ → Bool
 turns_off run m p = moment run m p && not (moment run (m + 1) p)
 
--- no record from one to another, of any party, clears a position of a hash
-abbrev pub NoneTurnedOff : ℕ → Course → ℕ → ℕ → ℕ → Type 0
-NoneTurnedOff k run hash first last =
-    (m p : ℕ) → first ≤ m → m ≤ last → IsPosition (bits_of run) k hash p → turns_off run m p ≡ false
+-- no record from one to another, of any party, clears one of these positions
+abbrev pub NoneTurnedOff : (ℕ → Type 0) → Course → ℕ → ℕ → Type 0
+NoneTurnedOff Is run first last =
+    (m p : ℕ) → first ≤ m → m ≤ last → Is p → turns_off run m p ≡ false
 
--- a finished look-up is undisturbed: no record in its span clears a position of its hash
-abbrev pub IsUndisturbed : ℕ → Course → ℕ → ℕ → ℕ → Type 0
-IsUndisturbed k run hash began last = NoneTurnedOff k run hash (began + 1) last
+-- a finished look-up of these positions is undisturbed: no record in its span clears one of them
+abbrev pub IsUndisturbed : (ℕ → Type 0) → Course → ℕ → ℕ → Type 0
+IsUndisturbed Is run began last = NoneTurnedOff Is run (began + 1) last
 
 -- the plan of each call that begins passes a test
 abbrev pub EveryCall : (Plan → Bool) → List Record → Type 0

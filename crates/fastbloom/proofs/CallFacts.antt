@@ -1,12 +1,13 @@
 -- What calls on shared filters tell: cases that hold, and cases that nearly do.
-use Rattle.std.proofs.Common.{◌≡◌, ◌∙◌, ◌↔◌, ℕ, ◌*◌, ◌/◌, ◌%◌, ◌^◌, ◌<◌, ◌≤◌, Bool, true, false, sym, subst, ap, refl, arith}
+use Rattle.std.proofs.Common.{◌≡◌, ◌∙◌, ◌↔◌, ℕ, ◌*◌, ◌/◌, ◌%◌, ◌^◌, ◌<◌, ◌≤◌, Bool, Some, true, false, sym, subst, ap, refl, arith}
 use Rattle.std.proofs.lemmas.Option.{same_Some, slice_get_within}
 use Rattle.bloom_parts.specs.Content.{bit_is_on}
 use Rattle.bloom_parts.specs.Made.{FoundByOr, made-in_turn}
 use Rattle.bloom_parts.specs.Places.{place}
 use Rattle.bloom_steps.specs.Scripts.{Any, answer_of_end}
-use Rattle.bloom_steps.specs.LiveSteps.{IsMade, WasInserted}
-use Rattle.fastbloom.specs.Shared.{SharedFilter, MakesInsert}
+use Rattle.bloom_steps.specs.declared.steps.vocabulary.Call.TheVariants.{Insert}
+use Rattle.bloom_steps.specs.LiveSteps.{IsMade, MakesCallOn, WasInserted}
+use Rattle.fastbloom.specs.Shared.{SharedFilter}
 use Rattle.fastbloom.proofs.SharedFacts.{insert-sets-each}
 use Rattle.fastbloom.proofs.ScriptLemmas.{member}
 use Rattle.bloom_steps.proofs.LiveLemmas.{last-of, made-at}
@@ -18,7 +19,8 @@ SetsPlace f p was = (found : ℕ) × FoundByOr f.words (p / 64) (2 ^ (p % 64)) f
 
 module _ {S : Type 0} (f : SharedFilter S) (hash : ℕ) where
   -- a reply is false exactly if some step found its place clear
-  reply-false : (reply : Bool) → 1 ≤ f.hashes → (calls : MakesInsert f hash reply)
+  reply-false : (reply : Bool) → 1 ≤ f.hashes
+      → (calls : MakesCallOn f.words f.words f.hashes (Insert hash) (Some reply))
       → (reply ≡ false) ↔ Any calls.taken
       (λ i t. bit_is_on t.found (place (64 * f.words.count) hash i) ≡ false)
   reply-false reply some calls =
@@ -29,7 +31,7 @@ module _ {S : Type 0} (f : SharedFilter S) (hash : ℕ) where
       (λ is. end.2.0 (sym same ∙ is), λ any. same ∙ end.2.1 any)
 
   -- an insert that replies false set a place of its hash that it found clear
-  insert-false : 1 ≤ f.hashes → MakesInsert f hash false
+  insert-false : 1 ≤ f.hashes → MakesCallOn f.words f.words f.hashes (Insert hash) (Some false)
       → (i : ℕ) × (i < f.hashes) × SetsPlace f (place (64 * f.words.count) hash i) false
   insert-false some calls =
       let off = (reply-false false some calls).0 refl in
@@ -48,7 +50,8 @@ module _ {S : Type 0} (f : SharedFilter S) (hash : ℕ) where
       )
 
   -- an insert that replies true found each place of its hash set
-  insert-true : MakesInsert f hash true → (i : ℕ) → i < f.hashes
+  insert-true : MakesCallOn f.words f.words f.hashes (Insert hash) (Some true)
+      → (i : ℕ) → i < f.hashes
       → SetsPlace f (place (64 * f.words.count) hash i) true
   insert-true calls i within =
       let p = place (64 * f.words.count) hash i in

@@ -1,11 +1,9 @@
--- Which fact a step of each kind has, and what a call on a filter is: the facts are opaque, so each
--- is told apart by its name.
-use Rattle.std.proofs.Common.{◌≡◌, ◌↔◌, ℕ, Bool, List, Option}
+-- Which fact a step of each kind has: the facts are opaque, so each is told apart by its name.
+use Rattle.std.proofs.Common.{◌≡◌, ◌↔◌, ℕ, List}
 use Rattle.bloom_parts.specs.Made.{SharedWords, FoundByLoad, FoundByOr, FoundByAnd, MadeZero, FoundBySwap, InTurn}
 use Rattle.bloom_steps.specs.declared.steps.vocabulary.Step.TheVariants.{Load, Or, And, Zero, Other, Take}
-use Rattle.bloom_steps.specs.declared.steps.vocabulary.Call.{Call}
-use Rattle.bloom_steps.specs.LiveSteps.{IsMade, MakesCallOn, TakesWordsOf}
-use Rattle.fastbloom.specs.Shared.{MakesCall, SharedFilter, TakesWords}
+use Rattle.bloom_steps.specs.LiveSteps.{IsMade, TakesWordsOf}
+use Rattle.fastbloom.specs.Shared.{SharedFilter, TakesWords}
 
 module _ (words other : SharedWords) (before i mask found after : ℕ) where
   -- a load reads the filter's own word
@@ -38,12 +36,7 @@ module _ (words other : SharedWords) (before i mask found after : ℕ) where
       ↔ InTurn (FoundBySwap words i found) before after
   made-take = (λ made. made, λ made. made)
 
-module _ (f other : SharedFilter ℕ) where
-  -- a call on a filter is one on its words, with its number of hashes
-  calls-words : (call : Call) (reply : Option Bool)
-      → MakesCall f other call reply ↔ MakesCallOn f.words other.words f.hashes call reply
-  calls-words call reply = (λ made. made, λ made. made)
-
-  -- so is a take
+module _ (f : SharedFilter ℕ) where
+  -- a take of a filter is one of its words, with its number of hashes
   takes-words : (taken : List ℕ) → TakesWords f taken ↔ TakesWordsOf f.words f.hashes taken
   takes-words taken = (λ made. made, λ made. made)

@@ -9,8 +9,8 @@ use Rattle.bloom_steps.specs.declared.steps.vocabulary.Call.TheVariants.{Insert,
 use Rattle.bloom_steps.specs.declared.steps.vocabulary.End.TheVariants.{Answer}
 use Rattle.bloom_steps.specs.Scripts.{Taken, Each}
 use Rattle.bloom_plain.specs.Filter.{Filter}
-use Rattle.bloom_steps.specs.LiveSteps.{IsMade}
-use Rattle.fastbloom.specs.Shared.{SharedFilter, HaveSameShape, HasFormOf, MakesCall, MakesInsert, WereFoundAlike, WereFoundToDiffer}
+use Rattle.bloom_steps.specs.LiveSteps.{IsMade, MakesCallOn}
+use Rattle.fastbloom.specs.Shared.{SharedFilter, HaveSameShape, HasFormOf, WereFoundAlike, WereFoundToDiffer}
 use Rattle.fastbloom.proofs.ScriptLemmas.{member}
 use Rattle.bloom_steps.proofs.LiveLemmas.{insert-answers, made-at, silent}
 
@@ -69,7 +69,7 @@ one_or found reply = record { step = Or 0 1; found = found; ended = Answer reply
 
 -- an insert whose one step found its bit clear replies false
 insert-of-new : (name turn next : ℕ) → InTurn (FoundByOr (filter name 1 1).words 0 1 0) turn next
-    → MakesInsert (filter name 1 1) 0 false
+    → MakesCallOn (filter name 1 1).words (filter name 1 1).words 1 (Insert 0) (Some false)
 unfolding chain
 insert-of-new name turn next made = record {
   taken = one_or 0 false;
@@ -88,20 +88,20 @@ insert-of-new name turn next made = record {
 
 -- an insert has a reply
 insert-replies : (name hash : ℕ)
-    → MakesCall (filter name 1 1) (filter name 1 1) (Insert hash) None → ⊥
+    → MakesCallOn (filter name 1 1).words (filter name 1 1).words 1 (Insert hash) None → ⊥
 insert-replies name hash calls =
     let some = insert-answers 1 1 hash calls.taken (omega arith) calls.script in
     none-some some.0 (calls.answers ∙ some.1)
 
 -- a clear has no reply
 clear-is-silent : (name : ℕ) (reply : Bool)
-    → MakesCall (filter name 2 1) (filter name 2 1) Clear (Some reply) → ⊥
+    → MakesCallOn (filter name 2 1).words (filter name 2 1).words 1 Clear (Some reply) → ⊥
 clear-is-silent name reply calls =
     none-some reply (sym (calls.answers ∙ silent calls.taken calls.script.last))
 
 -- by an insert each position of its hash was set, in the filter's own words
 pub insert-sets-each : {S : Type 0} (f : SharedFilter S) (hash : ℕ) (reply : Bool)
-    → MakesInsert f hash reply → (i : ℕ) → i < f.hashes
+    → MakesCallOn f.words f.words f.hashes (Insert hash) (Some reply) → (i : ℕ) → i < f.hashes
     → let p = place (64 * f.words.count) hash i in
     (found : ℕ) × FoundByOr f.words (p / 64) (2 ^ (p % 64)) found
 insert-sets-each f hash reply calls i within =
@@ -115,7 +115,8 @@ insert-sets-each f hash reply calls i within =
     )
 
 -- by a clear each word was made 0
-clear-zeroes-each : {S : Type 0} (f : SharedFilter S) → MakesCall f f Clear None
+clear-zeroes-each : {S : Type 0} (f : SharedFilter S)
+    → MakesCallOn f.words f.words f.hashes Clear None
     → (i : ℕ) → i < f.words.count → MadeZero f.words i
 clear-zeroes-each f calls i within =
     let at = member calls.taken i (omega (arith, within, calls.script.count)) in
@@ -125,7 +126,8 @@ clear-zeroes-each f calls i within =
     (calls.script.steps i at.0 at.1) made.2).0
 
 -- by a union each word of the other was loaded, and what was found was set here
-union-loads-the-other : {S : Type 0} (f other : SharedFilter S) → MakesCall f other Union None
+union-loads-the-other : {S : Type 0} (f other : SharedFilter S)
+    → MakesCallOn f.words other.words f.hashes Union None
     → (i : ℕ) → i < f.words.count
     → (x : ℕ) × (found : ℕ) × FoundByLoad other.words i x × FoundByOr f.words i x found
 union-loads-the-other f other calls i within =

@@ -1,15 +1,16 @@
 -- Steps that lead from turn to turn are steps of their own, also where one is as the other. The
 -- facts are opaque, so what can't be shown of one step alone is shown by what two steps give.
-use Rattle.std.proofs.Common.{◌≡◌, ℕ, ◌/◌, ◌%◌, ◌^◌, Bool, List, [], ◌∷◌, length, refl, sym, subst, arith}
+use Rattle.std.proofs.Common.{◌≡◌, ℕ, ◌/◌, ◌%◌, ◌^◌, Bool, List, [], ◌∷◌, Some, length, refl, sym, subst, arith}
 use Rattle.bloom_parts.specs.Made.{SharedWords, FoundByLoad, FoundByOr, InTurn}
 use Rattle.bloom_parts.specs.Places.{place}
 use Rattle.bloom_steps.specs.declared.steps.vocabulary.Step.{Step}
 use Rattle.bloom_steps.specs.declared.steps.vocabulary.Step.TheVariants.{Load}
+use Rattle.bloom_steps.specs.declared.steps.vocabulary.Call.TheVariants.{Insert}
 use Rattle.bloom_steps.specs.declared.steps.vocabulary.End.TheVariants.{Running}
 use Rattle.bloom_steps.specs.Scripts.{Taken, Each, Linked}
 use Rattle.bloom_steps.specs.Steps.{or_at}
-use Rattle.bloom_steps.specs.LiveSteps.{IsMade}
-use Rattle.fastbloom.specs.Shared.{SharedFilter, MakesInsert}
+use Rattle.bloom_steps.specs.LiveSteps.{IsMade, MakesCallOn}
+use Rattle.fastbloom.specs.Shared.{SharedFilter}
 use Rattle.fastbloom.proofs.SharedFacts.{filter}
 
 -- the words of a filter with two hashes
@@ -50,7 +51,8 @@ SetTwo f p q =
     × InTurn (FoundByOr f.words (q / 64) (2 ^ (q % 64)) other) second end
 
 -- an insert with two hashes makes two steps, one after the other, also where its places coincide
-insert-makes-two : (name hash : ℕ) (reply : Bool) → MakesInsert (filter name 1 2) hash reply
+insert-makes-two : (name hash : ℕ) (reply : Bool)
+    → MakesCallOn (filter name 1 2).words (filter name 1 2).words 2 (Insert hash) (Some reply)
     → SetTwo (filter name 1 2) (place 64 hash 0) (place 64 hash 1)
 insert-makes-two name hash reply calls =
     of calls.taken calls.first calls.last calls.script.count calls.script.steps calls.made

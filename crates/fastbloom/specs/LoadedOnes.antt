@@ -1,5 +1,5 @@
 -- How many items a filter that threads share has, and how often it errs, by how many bits were set
--- in its words as they were loaded, one after the other. This project's own.
+-- in its words as they were loaded. This project's own.
 use Rattle.std.specs.Prelude.{ℕ, ◌*◌}
 use Rattle.bloom_parts.specs.Estimates.{EstimatesItems}
 use Rattle.bloom_parts.specs.FalsePositives.{BoundsPositives}

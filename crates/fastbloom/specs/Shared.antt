@@ -1,13 +1,11 @@
--- What contracts see of a filter that threads share, and which steps its calls make. Contracts
--- don't see its words, since any thread may change them at any time. Which steps make up a call is
--- said once for all vectors (`bloom_steps`). These definitions are this project's own.
-use Rattle.std.specs.Prelude.{◌≡◌, ◌≢◌, ℕ, ◌<◌, Bool, List, length, map, Option, Some}
+-- What contracts see of a filter that threads share. They don't see its words, since any thread may
+-- change them at any time. Which steps make up a call is said once for all vectors (`bloom_steps`
+-- LiveSteps). These definitions are this project's own.
+use Rattle.std.specs.Prelude.{◌≡◌, ◌≢◌, ℕ, ◌<◌, List, length, map}
 use Rattle.bloom_parts.specs.Made.{SharedWords, BeganWith, FoundByLoad}
 use Rattle.bloom_plain.specs.Builders.{RateStart, IsSizeOf, sized_filter, empty_start}
 use Rattle.bloom_plain.specs.Filter.{Filter}
-use Rattle.bloom_steps.specs.declared.steps.vocabulary.Call.{Call}
-use Rattle.bloom_steps.specs.declared.steps.vocabulary.Call.TheVariants.{Insert}
-use Rattle.bloom_steps.specs.LiveSteps.{MakesCallOn, TakesWordsOf, WereInserted}
+use Rattle.bloom_steps.specs.LiveSteps.{TakesWordsOf, WereInserted}
 use Rattle.bloom_steps.specs.Loaded.{WereLoaded}
 
 -- the vector of the words, the number of hashes, and the hasher
@@ -34,15 +32,6 @@ abbrev pub HasFormFor : {S : Type 0} → RateStart S → ℕ → SharedFilter S 
 HasFormFor start items f =
     (bits : ℕ) × IsSizeOf start items bits
     × HasFormOf f (sized_filter (empty_start start bits) items)
-
--- a call was made: every step of one of its scripts was made on the words of a filter, from turn to
--- turn, so each by itself and in order, and the reply is that of the script
-abbrev pub MakesCall : {S : Type 0} → SharedFilter S → SharedFilter S → Call → Option Bool → Type 0
-MakesCall f other call reply = MakesCallOn f.words other.words f.hashes call reply
-
--- a hash was inserted, and this was the reply
-abbrev pub MakesInsert : {S : Type 0} → SharedFilter S → ℕ → Bool → Type 0
-MakesInsert f hash reply = MakesCall f f (Insert hash) (Some reply)
 
 -- each item of a list was inserted by its hash under the hasher, by an insert of its own, in order
 -- and linked by turns

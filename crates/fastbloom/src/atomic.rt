@@ -1,7 +1,7 @@
 //! The Bloom filter that threads share, and change with no lock.
 ghost use Rattle.std.specs.Prelude.{◌≡◌, ◌*◌, ◌≤◌, max, Some};
-ghost use Rattle.bloom_steps.specs.declared.steps.vocabulary.Call.TheVariants.{Contains};
-ghost use Rattle.fastbloom.specs.Shared.{MakesCall, MakesInsert};
+ghost use Rattle.bloom_steps.specs.declared.steps.vocabulary.Call.TheVariants.{Contains, Insert};
+ghost use Rattle.bloom_steps.specs.LiveSteps.{MakesCallOn};
 
 mod all_words;
 mod data;
@@ -81,7 +81,8 @@ impl<S> AtomicBloomFilter<S> {
     /// returns false exactly if it set a bit itself.
     #[inline(always)]
     pub fn insert_hash(&self, hash: u64) -> bool
-        ensures { MakesInsert self.now hash result }
+        ensures { MakesCallOn self.now.words self.now.words self.now.hashes (Insert hash)
+            (Some result) }
     {
         calls::insert_hash(&self.words.lent(), self.num_hashes, hash)
     }
@@ -92,7 +93,8 @@ impl<S> AtomicBloomFilter<S> {
     /// set may never have been set all at once.
     #[inline(always)]
     pub fn contains_hash(&self, hash: u64) -> bool
-        ensures { MakesCall self.now self.now (Contains hash) (Some result) }
+        ensures { MakesCallOn self.now.words self.now.words self.now.hashes (Contains hash)
+            (Some result) }
     {
         calls::contains_hash(&self.words.lent(), self.num_hashes, hash)
     }

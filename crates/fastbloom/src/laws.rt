@@ -17,7 +17,7 @@ pub use bloom_plain::laws::{
     intersection_of_contents, lists_join, rebuilt_answers_alike, source_hash_by_default,
     union_contains, union_of_contents, union_of_inserts,
 };
-pub use bloom_steps::laws::{at_most_one_course, steps_in_memory};
+pub use bloom_steps::laws::{at_most_one_course, interleavings, steps_in_memory};
 
 /// Filters of one shape that `fill` returns for the same hashes are equal, however the hashes are
 /// split into parts, and in whatever order and number they come.

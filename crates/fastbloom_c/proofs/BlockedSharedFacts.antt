@@ -2,8 +2,8 @@
 -- one of these in one thing and don't hold.
 use Rattle.std.proofs.Common.{◌^◌, [], ◌∷◌, true, arith, lit<, lit≤, ℕ, subst, sym}
 use Rattle.bloom_parts.specs.Made.{SharedWords}
-use Rattle.fastbloom_c.specs.BlockedShared.{SetsInLines, TellsLooksInLines, TellsSetsInLines}
-use Rattle.bloom_blocked.specs.LineSteps.{LooksInLine, SetsInTurn, WasSetInLine}
+use Rattle.fastbloom_c.specs.BlockedShared.{TellsLooksInLines, TellsSetsInLines}
+use Rattle.bloom_blocked.specs.LineSteps.{LooksInLine, SetsInTurn, WasSetInLine, WereSetInLines}
 use Rattle.bloom_parts.specs.Content.{content}
 use Rattle.fastbloom_c.specs.Passed.{MakeLines}
 
@@ -22,7 +22,7 @@ lines-past : MakeLines (2 ^ 58) → ⊥
 lines-past few = omega (arith, few.1)
 
 -- each hash of a list was inserted, the last one too, from the turn to which the first led
-sets-each : (v : SharedWords) (made : SetsInLines v 1 (5 ∷ 6 ∷ []))
+sets-each : (v : SharedWords) (made : WereSetInLines v 1 (5 ∷ 6 ∷ []))
     → (mid : ℕ) × WasSetInLine v 1 5 made.first mid × WasSetInLine v 1 6 mid made.last
 sets-each v made =
     let (mid, one, (last, two, end)) = made.each in

@@ -5,10 +5,11 @@
 //! counts as 1. Where there are no words, or more than 2^58 - 1, a call returns false and does
 //! nothing. None takes a lock or waits for a thread: an insert's `|` on a word is tried again only
 //! where another thread changed that word in between.
-ghost use Rattle.std.specs.Prelude.{◌≡◌, ◌↔◌, ◌≤◌, false, IsTrue, max, nat_lt};
+ghost use Rattle.std.specs.Prelude.{◌≡◌, ◌↔◌, ◌≤◌, false, IsTrue, Some, max, nat_lt};
 ghost use Rattle.bloom_parts.specs.Keys.{key_low, key_high};
 ghost use Rattle.bloom_parts.specs.Sip.{sip};
-ghost use Rattle.fastbloom_c.specs.Shared.{MakesInsert, MakesLook};
+ghost use Rattle.bloom_steps.specs.declared.steps.vocabulary.Call.TheVariants.{Contains, Insert};
+ghost use Rattle.bloom_steps.specs.LiveSteps.{MakesCallOn};
 ghost use Rattle.fastbloom_c.specs.Passed.{MakeFilter, vector_of};
 
 use crate::lent::LentWords;
@@ -34,7 +35,8 @@ pub extern "C" fn fastbloom_shared_insert_hash(
     hash: u64,
 ) -> bool
     ensures made { MakeFilter words.len
-        → MakesInsert (vector_of words.at words.len) (max 1 num_hashes) hash result }
+        → MakesCallOn (vector_of words.at words.len) (vector_of words.at words.len)
+        (max 1 num_hashes) (Insert hash) (Some result) }
     ensures none { (MakeFilter words.len → ⊥) → result ≡ false }
 {
     let words = words.shared();
@@ -52,7 +54,8 @@ pub extern "C" fn fastbloom_shared_insert_hash(
 pub(crate) fn found_hashes(words: &RawWords, num_hashes: u32, hash: u64) -> u32
     requires filter { MakeFilter words.now.len }
     requires hashes { 1 ≤ num_hashes }
-    ensures { MakesLook (vector_of words.now.at words.now.len) num_hashes hash (nat_lt 0 result) }
+    ensures { let vector = vector_of words.now.at words.now.len in
+        MakesCallOn vector vector num_hashes (Contains hash) (Some (nat_lt 0 result)) }
 {
     if contains_hash(&LentWords::new(words), num_hashes, hash) {
         num_hashes
@@ -66,7 +69,8 @@ pub(crate) fn found_hashes(words: &RawWords, num_hashes: u32, hash: u64) -> u32
 fn found_hashes_of(words: RawWords, num_hashes: u32, hash: u64) -> u32
     requires filter { MakeFilter words.len }
     requires hashes { 1 ≤ num_hashes }
-    ensures { MakesLook (vector_of words.at words.len) num_hashes hash (nat_lt 0 result) }
+    ensures { let vector = vector_of words.at words.len in
+        MakesCallOn vector vector num_hashes (Contains hash) (Some (nat_lt 0 result)) }
 {
     if contains_hash(&LentWords::new(&words), num_hashes, hash) {
         num_hashes
@@ -83,7 +87,8 @@ pub extern "C" fn fastbloom_shared_contains_hash(
     hash: u64,
 ) -> bool
     ensures made { MakeFilter words.len
-        → MakesLook (vector_of words.at words.len) (max 1 num_hashes) hash result }
+        → MakesCallOn (vector_of words.at words.len) (vector_of words.at words.len)
+        (max 1 num_hashes) (Contains hash) (Some result) }
     ensures none { (MakeFilter words.len → ⊥) → result ≡ false }
 {
     let words = words.shared();
@@ -104,7 +109,8 @@ pub extern "C" fn fastbloom_shared_insert(
 ) -> bool
     ensures made { let hash = sip (key_low key.now) (key_high key.now) bytes.now in
         MakeFilter words.len
-        → MakesInsert (vector_of words.at words.len) (max 1 num_hashes) hash result }
+        → MakesCallOn (vector_of words.at words.len) (vector_of words.at words.len)
+        (max 1 num_hashes) (Insert hash) (Some result) }
     ensures none { (MakeFilter words.len → ⊥) → result ≡ false }
 {
     fastbloom_shared_insert_hash(words, num_hashes, fastbloom_hash(key, bytes))
@@ -120,7 +126,8 @@ pub extern "C" fn fastbloom_shared_contains(
 ) -> bool
     ensures made { let hash = sip (key_low key.now) (key_high key.now) bytes.now in
         MakeFilter words.len
-        → MakesLook (vector_of words.at words.len) (max 1 num_hashes) hash result }
+        → MakesCallOn (vector_of words.at words.len) (vector_of words.at words.len)
+        (max 1 num_hashes) (Contains hash) (Some result) }
     ensures none { (MakeFilter words.len → ⊥) → result ≡ false }
 {
     fastbloom_shared_contains_hash(words, num_hashes, fastbloom_hash(key, bytes))

@@ -39,7 +39,7 @@ fn items_in(words: &RawWords, num_hashes: u32) -> Estimate
 
 /// Two bounds of the rate of false positives of a filter as it is, in units of 2^-63, and whether
 /// there are words, at most 2^58 - 1. They are those of `fastbloom_rate_now`, of the words as they
-/// were loaded, one after the other.
+/// were loaded.
 #[unsafe(no_mangle)]
 pub extern "C" fn fastbloom_shared_rate_now(
     words: PassedWords,
@@ -68,7 +68,7 @@ pub extern "C" fn fastbloom_shared_rate_now(
 }
 
 /// Two bounds of the number of items in a filter, and whether there are words, at most 2^58 - 1.
-/// They are those of `fastbloom_estimate`, of the words as they were loaded, one after the other.
+/// They are those of `fastbloom_estimate`, of the words as they were loaded.
 #[unsafe(no_mangle)]
 pub extern "C" fn fastbloom_shared_estimate(
     words: PassedWords,

@@ -114,8 +114,8 @@ pub extern "C" fn fastbloom_shared_load(words: PassedWords, loaded: &mut [u64]) 
     true
 }
 
-/// The number of bits that are set, of the words as they were loaded, one after the other, or 0
-/// where there are no words or more than 2^58 - 1.
+/// The number of bits that are set, of the words as they were loaded, or 0 where there are no words
+/// or more than 2^58 - 1.
 #[unsafe(no_mangle)]
 pub extern "C" fn fastbloom_shared_count_ones(words: PassedWords) -> usize
     ensures counts { MakeFilter words.len → CountsLoaded (vector_of words.at words.len) result }

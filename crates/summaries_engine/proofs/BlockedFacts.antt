@@ -25,7 +25,7 @@ use Rattle.fastbloom.specs.Builders.{RefusesAs}
 use Rattle.fastbloom.specs.Data.{DefaultFilter}
 use Rattle.fastbloom.specs.FilterFiles.{IsFileOf, file_of}
 use Rattle.fastbloom.specs.Lines.{LineRangeLaw, line_positions}
-use Rattle.fastbloom.specs.Many.{positions_of_all}
+use Rattle.fastbloom.specs.Many.{positions_in_lines}
 use Rattle.fastbloom.specs.declared.parallel.shape.Shape.{Shape}
 use Rattle.summaries_engine.specs.declared.form.Form.TheVariants.{Sealed}
 use Rattle.summaries_engine.specs.declared.kinds.AnyFilter.TheVariants.{Classic, Blocked}
@@ -159,7 +159,7 @@ filled-a range = record {
   words = refl;
   num_hashes = refl;
   bits = content-case (line 268435968).words
-      (positions_of_all 1 2 (0x4074_48d2_b89b_1813 ∷ [])) refl
+      (positions_in_lines 1 2 (0x4074_48d2_b89b_1813 ∷ [])) refl
       (λ p past. ap (λ b. b || false) (past-line range p past));
 }
 

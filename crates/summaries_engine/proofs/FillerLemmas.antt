@@ -5,7 +5,7 @@ use Rattle.bloom_parts.specs.Sip.{sip}
 use Rattle.fastbloom.specs.Blocked.{InsertsAllInLines, num_lines_of}
 use Rattle.fastbloom.specs.Data.{DefaultFilter}
 use Rattle.fastbloom.specs.Fill.{FilledByInsertsLaw, hashes_of, words_of}
-use Rattle.fastbloom.specs.Many.{positions_of_all}
+use Rattle.fastbloom.specs.Many.{positions_in_lines}
 use Rattle.fastbloom.specs.Replies.{InsertsAll}
 use Rattle.fastbloom.specs.declared.parallel.shape.Shape.{Shape}
 use Rattle.bloom_files.specs.declared.layout.Layout.TheVariants.{Lines}
@@ -49,10 +49,10 @@ takes-in-lines old new hashes did = record {
         words = sym did.shape.words ∙ is.words;
         num_hashes = sym did.shape.hashes ∙ is.num_hashes;
         bits = λ p. did.bits p
-            ∙ ap (λ b. b || positions_of_all (num_lines_of old) old.hashes hashes p) (is.bits p)
-            ∙ ap (λ w. positions_of_all lines k before p
-            || positions_of_all (w / 8) old.hashes hashes p) is.words
-            ∙ ap (λ h. positions_of_all lines k before p || positions_of_all lines h hashes p)
+            ∙ ap (λ b. b || positions_in_lines (num_lines_of old) old.hashes hashes p) (is.bits p)
+            ∙ ap (λ w. positions_in_lines lines k before p
+            || positions_in_lines (w / 8) old.hashes hashes p) is.words
+            ∙ ap (λ h. positions_in_lines lines k before p || positions_in_lines lines h hashes p)
             is.num_hashes
             ∙ sym (positions-append Lines shape before hashes p);
       };

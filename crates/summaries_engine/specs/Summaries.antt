@@ -7,7 +7,7 @@ use Rattle.bloom_parts.specs.Keys.{key_of}
 use Rattle.bloom_parts.specs.Sip.{sip}
 use Rattle.fastbloom.specs.Data.{DefaultFilter}
 use Rattle.fastbloom.specs.Fill.{IsFilledWith, hashes_of, words_of}
-use Rattle.fastbloom.specs.Many.{positions_of_all}
+use Rattle.fastbloom.specs.Many.{positions_in_lines}
 use Rattle.fastbloom.specs.declared.parallel.shape.Shape.{Shape}
 use Rattle.summaries_engine.specs.declared.kinds.AnyFilter.{AnyFilter}
 use Rattle.summaries_engine.specs.declared.kinds.AnyFilter.TheVariants.{Classic, Blocked}
@@ -23,7 +23,7 @@ pub record IsFilledInLines (shape : Shape) (hashes : List ℕ) (f : DefaultFilte
   pub words : length f.words ≡ words_of shape
   pub num_hashes : f.hashes ≡ hashes_of shape
   pub bits : (p : ℕ) → content f.words p
-      ≡ positions_of_all (words_of shape / 8) (hashes_of shape) hashes p
+      ≡ positions_in_lines (words_of shape / 8) (hashes_of shape) hashes p
 
 -- a filter has this shape, and exactly the positions that these hashes have in its kind are set
 abbrev pub IsFilled : Shape → List ℕ → AnyFilter → Type 0

@@ -1,7 +1,7 @@
 //! Inserts of many hashes that tell which of them were new.
 ghost use Rattle.std.specs.Prelude.{◌≡◌, ℕ, ◌*◌, ◌/◌, ◌≤◌, ◌||◌, ◌∷◌, [], length};
 ghost use Rattle.bloom_parts.specs.Content.{content};
-ghost use Rattle.bloom_blocked.specs.Many.{positions_of_all, TellsNew};
+ghost use Rattle.bloom_blocked.specs.Many.{positions_in_lines, TellsNewInLines};
 
 use super::{WORDS_TO_READ_AHEAD, all_are_set, ends_are_full, mask_where};
 use crate::by_hash::insert_hash;
@@ -13,10 +13,10 @@ use bloom_parts::slices::clear;
 fn insert_each_telling(words: &mut [u64], num_hashes: u32, hashes: &[u64]) -> u64
     requires words { 8 ≤ length words.old }
     requires few { length hashes.now ≤ 64 }
-    ensures fresh { TellsNew (length words.old / 8) num_hashes (content words.old) hashes.now
+    ensures fresh { TellsNewInLines (length words.old / 8) num_hashes (content words.old) hashes.now
         (result ∷ []) }
     ensures content { (p : ℕ) → content words.new p ≡ (content words.old p
-        || positions_of_all (length words.old / 8) num_hashes hashes.now p) }
+        || positions_in_lines (length words.old / 8) num_hashes hashes.now p) }
     ensures shape { length words.new ≡ length words.old }
 {
     let mut fresh: u64 = 0;
@@ -35,10 +35,10 @@ fn insert_each_telling(words: &mut [u64], num_hashes: u32, hashes: &[u64]) -> u6
 fn insert_word_telling(words: &mut [u64], num_hashes: u32, hashes: &[u64]) -> u64
     requires words { 8 ≤ length words.old }
     requires few { length hashes.now ≤ 64 }
-    ensures fresh { TellsNew (length words.old / 8) num_hashes (content words.old) hashes.now
+    ensures fresh { TellsNewInLines (length words.old / 8) num_hashes (content words.old) hashes.now
         (result ∷ []) }
     ensures content { (p : ℕ) → content words.new p ≡ (content words.old p
-        || positions_of_all (length words.old / 8) num_hashes hashes.now p) }
+        || positions_in_lines (length words.old / 8) num_hashes hashes.now p) }
     ensures shape { length words.new ≡ length words.old }
 {
     if words.len() >= WORDS_TO_READ_AHEAD
@@ -57,10 +57,10 @@ fn insert_word_telling(words: &mut [u64], num_hashes: u32, hashes: &[u64]) -> u6
 pub fn insert_hashes_tell_new(words: &mut [u64], num_hashes: u32, hashes: &[u64], fresh: &mut [u64])
     requires words { 8 ≤ length words.old }
     requires room { length hashes.now ≤ 64 * length fresh.old }
-    ensures fresh { TellsNew (length words.old / 8) num_hashes (content words.old) hashes.now
+    ensures fresh { TellsNewInLines (length words.old / 8) num_hashes (content words.old) hashes.now
         fresh.new }
     ensures content { (p : ℕ) → content words.new p ≡ (content words.old p
-        || positions_of_all (length words.old / 8) num_hashes hashes.now p) }
+        || positions_in_lines (length words.old / 8) num_hashes hashes.now p) }
     ensures words_shape { length words.new ≡ length words.old }
     ensures fresh_shape { length fresh.new ≡ length fresh.old }
 {

@@ -4,7 +4,8 @@ ghost use Rattle.std.specs.List.{concat};
 ghost use Rattle.std.specs.Iterator.{IsFiniteIterable};
 ghost use Rattle.std.specs.Iterator.Runs.{WholeRun};
 ghost use Rattle.bloom_plain.specs.SourceHash.{source_hash_of, lent_hash_of, IsFunctionOfBytes};
-ghost use Rattle.bloom_blocked.specs.SharedBlocked.{MakesInsertInLine, MakesInsertsInLines, MakesLookUpInLine};
+ghost use Rattle.bloom_blocked.specs.LineSteps.{LooksInLine, SetsInLine};
+ghost use Rattle.bloom_blocked.specs.SharedBlocked.{MakesInsertsInLines};
 
 use super::AtomicBlockedBloomFilter;
 use crate::many::{LINES_TOGETHER, WORDS_TO_READ_AHEAD};
@@ -37,11 +38,11 @@ impl<S: BuildHasher> AtomicBlockedBloomFilter<S> {
     #[inline]
     pub fn insert<T: Hash>(&self, val: &T) -> bool
         ensures made { let hash = source_hash_of S.BuildHasher S.Hasher.Hasher T.hash_input in
-            MakesInsertInLine self.now (hash self.now.hasher val.now) result }
+            SetsInLine self.now.words self.now.hashes (hash self.now.hasher val.now) result }
         // An equal item would have been inserted alike.
         ensures alike { let hash = source_hash_of S.BuildHasher S.Hasher.Hasher T.hash_input in
             (other : T) → IsTrue (T.eq val.now other)
-            → MakesInsertInLine self.now (hash self.now.hasher other) result }
+            → SetsInLine self.now.words self.now.hashes (hash self.now.hasher other) result }
     {
         self.insert_hash(self.source_hash(val))
     }
@@ -50,11 +51,11 @@ impl<S: BuildHasher> AtomicBlockedBloomFilter<S> {
     #[inline]
     pub fn contains<T: Hash>(&self, val: &T) -> bool
         ensures made { let hash = source_hash_of S.BuildHasher S.Hasher.Hasher T.hash_input in
-            MakesLookUpInLine self.now (hash self.now.hasher val.now) result }
+            LooksInLine self.now.words self.now.hashes (hash self.now.hasher val.now) result }
         // An equal item is found alike.
         ensures alike { let hash = source_hash_of S.BuildHasher S.Hasher.Hasher T.hash_input in
             (other : T) → IsTrue (T.eq val.now other)
-            → MakesLookUpInLine self.now (hash self.now.hasher other) result }
+            → LooksInLine self.now.words self.now.hashes (hash self.now.hasher other) result }
     {
         self.contains_hash(self.source_hash(val))
     }

@@ -4,6 +4,7 @@ use Rattle.std.proofs.Common.{◌≡◌, true, false, refl, arith, sym, subst, z
 use Rattle.std.proofs.lemmas.Bool.{both_ways}
 use Rattle.bloom_parts.specs.Chain.{chain}
 use Rattle.bloom_parts.specs.Content.{content}
+use Rattle.bloom_parts.specs.Places.{IsPosition}
 use Rattle.bloom_parts.proofs.PublishedLemmas.{place-position}
 use Rattle.bloom_steps.specs.declared.steps.vocabulary.Step.TheVariants.{Load, Or}
 use Rattle.bloom_steps.specs.declared.steps.vocabulary.Call.TheVariants.{Insert, Contains}
@@ -20,7 +21,7 @@ abbrev run : Course
 run = found_between_clears_answering false
 
 -- nothing is cleared from the insert's beginning to the look-up's last step
-kept : NoneTurnedOff 1 run 0 2 5
+kept : NoneTurnedOff (IsPosition 64 1 0) run 2 5
 unfolding content
 kept m p a b x = subst (λ q. turns_off run m q ≡ false) (sym (only p x)) (at m a b)
   where
@@ -34,7 +35,7 @@ kept m p a b x = subst (λ q. turns_off run m q ≡ false) (sym (only p x)) (at 
     at (suc (suc (suc (suc (suc (suc m)))))) a b = absurd (omega (arith, b))
 
 -- a record before the insert's beginning clears a position of the hash
-off-before : NoneTurnedOff 1 run 0 1 5 → ⊥
+off-before : NoneTurnedOff (IsPosition 64 1 0) run 1 5 → ⊥
 unfolding content chain
 off-before none =
     let on : turns_off run 1 0 ≡ true = refl in
@@ -42,7 +43,7 @@ off-before none =
     (none 1 0 (omega arith) (omega arith) (place-position 64 1 0 0 (omega arith))) on
 
 -- two records after the look-up's last step a position of the hash is cleared
-off-after : NoneTurnedOff 1 run 0 2 7 → ⊥
+off-after : NoneTurnedOff (IsPosition 64 1 0) run 2 7 → ⊥
 unfolding content chain
 off-after none =
     let on : turns_off run 7 0 ≡ true = refl in
@@ -50,7 +51,7 @@ off-after none =
     (none 7 0 (omega arith) (omega arith) (place-position 64 1 0 0 (omega arith))) on
 
 -- the theorem on finished inserts fails where the look-up between clears answers false
-unfound : FindsInserted 1 run → ⊥
+unfound : FindsInserted (IsPosition 64 1) run → ⊥
 unfound finds =
     let inserted =
     finished run 0 (Insert 0) 2 3 (Answer false) refl (omega arith) (Or 0 1) 0 refl (λ e. cc)

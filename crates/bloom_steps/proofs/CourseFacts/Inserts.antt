@@ -14,7 +14,7 @@ use Rattle.bloom_steps.specs.declared.steps.vocabulary.Step.{Step}
 use Rattle.bloom_steps.proofs.StepFacts.Members.{each-member}
 use Rattle.bloom_steps.proofs.CourseFacts.Finished.{finished, step_at}
 use Rattle.bloom_steps.proofs.CourseFacts.Lawful.{lawful-twins}
-use Rattle.bloom_steps.proofs.RunLemmas.Inserts.{inserts_tell}
+use Rattle.bloom_steps.proofs.RunLemmas.PlainCalls.{tells}
 
 -- the first of the twins sets position 0
 first-on : (answer : Bool) → TurnsOneOn (twins_answering answer) 0 0 5
@@ -61,10 +61,10 @@ none-of_another one =
 
 -- the theorem on inserts holds of the twins, which answer false
 told : InsertsTell twins
-told = inserts_tell 2 twins lawful-twins (omega arith) (omega arith)
+told = (tells 2 twins lawful-twins (omega arith) (omega arith)).inserts
 
 -- the theorem on inserts fails where the first of the twins answers true
-untold : InsertsTell (twins_answering true) → ⊥
+pub untold : InsertsTell (twins_answering true) → ⊥
 untold tell =
     let is =
     finished (twins_answering true) 0 (Insert 1) 0 5 (Answer true) refl (omega arith)

@@ -3,7 +3,7 @@ use Rattle.std.proofs.Common.{◌≡◌, true, false, Bool, refl, arith, sym, su
 use Rattle.std.proofs.lemmas.Bool.{both_ways}
 use Rattle.bloom_parts.specs.Chain.{chain}
 use Rattle.bloom_parts.specs.Content.{content}
-use Rattle.bloom_parts.specs.Places.{are_in}
+use Rattle.bloom_parts.specs.Places.{IsPosition, are_in}
 use Rattle.bloom_parts.proofs.PublishedLemmas.{place-position}
 use Rattle.bloom_steps.specs.declared.steps.vocabulary.Step.TheVariants.{Load, Or}
 use Rattle.bloom_steps.specs.declared.steps.vocabulary.Call.TheVariants.{Insert, Contains}
@@ -14,8 +14,7 @@ use Rattle.bloom_steps.proofs.CourseFacts.Courses.{disturbed, insert_in_clear, i
 use Rattle.bloom_steps.proofs.CourseFacts.Finished.{finished, finished-contains}
 use Rattle.bloom_steps.proofs.CourseFacts.Lawful.{lawful-insert_then_contains}
 use Rattle.bloom_steps.proofs.CourseFacts.Undisturbed.{alone, only}
-use Rattle.bloom_steps.proofs.RunLemmas.Contains.{contains_tell}
-use Rattle.bloom_steps.proofs.RunLemmas.Found.{finds_inserted}
+use Rattle.bloom_steps.proofs.RunLemmas.PlainCalls.{tells}
 
 -- just after its beginning the disturbed look-up's hash is not contained
 disturbed-first : are_in 64 2 1 (moment disturbed 1) ≡ false
@@ -38,7 +37,7 @@ unfolding content chain are_in
 disturbed-last = refl
 
 -- the disturbed look-up answers true, and is right at its last load for all that the theorem says
-disturbed-right : IsRightAt 2 disturbed 1 0 7 7 true
+disturbed-right : IsRightAt (IsPosition 64 2) (are_in 64 2) disturbed 1 0 7 7 true
 unfolding content chain
 disturbed-right = record {
   within = record { after = omega arith; upto = omega arith };
@@ -50,7 +49,7 @@ disturbed-right = record {
 }
 
 -- a look-up is not right at a moment outside of its span
-disturbed-before : IsRightAt 2 disturbed 1 0 7 0 true → ⊥
+disturbed-before : IsRightAt (IsPosition 64 2) (are_in 64 2) disturbed 1 0 7 0 true → ⊥
 disturbed-before right = omega (arith, right.within.after)
 
 -- the hash of a look-up that counts its last load alone is not contained at that load
@@ -59,7 +58,7 @@ unfolding content chain are_in
 last-load = refl
 
 -- the theorem on look-ups fails of one that counts its last load alone: it is undisturbed
-last-load_alone : ContainsTell 2 last_load_alone → ⊥
+last-load_alone : ContainsTell (IsPosition 64 2) (are_in 64 2) last_load_alone → ⊥
 last-load_alone tell =
     let right = tell 0 1 0 2 true finished-contains in
     both_ways (are_in 64 2 1 (moment last_load_alone 2)) last-load (sym (right.undisturbed alone))
@@ -70,11 +69,11 @@ unfolding content chain are_in
 contained-late = refl
 
 -- a look-up that answers false isn't right at a moment at which its hash is contained
-off-late : IsRightAt 1 off_and_on 0 0 5 5 false → ⊥
+off-late : IsRightAt (IsPosition 64 1) (are_in 64 1) off_and_on 0 0 5 5 false → ⊥
 off-late right = both_ways (are_in 64 1 0 (moment off_and_on 5)) (right.off refl) contained-late
 
 -- a look-up across a clear and an insert would have been right just after the clear
-off-then : IsRightAt 1 off_and_on 0 0 5 3 false
+off-then : IsRightAt (IsPosition 64 1) (are_in 64 1) off_and_on 0 0 5 3 false
 unfolding content chain are_in
 off-then = record {
   within = record { after = omega arith; upto = omega arith };
@@ -86,7 +85,7 @@ off-then = record {
 }
 
 -- the theorem on look-ups fails of one that was right only before its last load
-off-late_told : ContainsTell 1 off_and_on → ⊥
+off-late_told : ContainsTell (IsPosition 64 1) (are_in 64 1) off_and_on → ⊥
 off-late_told tell =
     off-late
     (tell 0 0 0 5 false
@@ -94,13 +93,14 @@ off-late_told tell =
     (λ e. cc) refl))
 
 -- the theorem on look-ups holds of one after a finished insert of its hash
-told : ContainsTell 1 insert_then_contains
-told = contains_tell 1 insert_then_contains lawful-insert_then_contains (omega arith) (omega arith)
+told : ContainsTell (IsPosition 64 1) (are_in 64 1) insert_then_contains
+told =
+    (tells 1 insert_then_contains lawful-insert_then_contains (omega arith) (omega arith)).contains
 
 -- the theorem on finished inserts holds of a look-up after a finished insert of its hash
-found : FindsInserted 1 insert_then_contains
+found : FindsInserted (IsPosition 64 1) insert_then_contains
 found =
-    finds_inserted 1 insert_then_contains lawful-insert_then_contains (omega arith) (omega arith)
+    (tells 1 insert_then_contains lawful-insert_then_contains (omega arith) (omega arith)).found
 
 -- the insert is finished, whatever the look-up answers
 finished-insert : (answer : Bool)
@@ -122,14 +122,14 @@ unfolding content chain are_in
 contained = refl
 
 -- the theorem on look-ups fails where the look-up after an insert answers false
-untold : ContainsTell 1 (insert_then_contains_answering false) → ⊥
+untold : ContainsTell (IsPosition 64 1) (are_in 64 1) (insert_then_contains_answering false) → ⊥
 untold tell =
     let right = tell 1 0 2 3 false (finished-look_up false) in
     both_ways (are_in 64 1 0 (moment (insert_then_contains_answering false) 3)) (right.off refl)
     contained
 
 -- nothing is cleared where a look-up follows an insert
-kept : NoneTurnedOff 1 (insert_then_contains_answering false) 0 0 3
+kept : NoneTurnedOff (IsPosition 64 1 0) (insert_then_contains_answering false) 0 3
 unfolding content
 kept m p a b x =
     subst (λ q. turns_off (insert_then_contains_answering false) m q ≡ false) (sym (only p x))
@@ -143,7 +143,7 @@ kept m p a b x =
     at (suc (suc (suc (suc m)))) b = absurd (omega (arith, b))
 
 -- the theorem on finished inserts fails where the look-up after an insert answers false
-unfound : FindsInserted 1 (insert_then_contains_answering false) → ⊥
+unfound : FindsInserted (IsPosition 64 1) (insert_then_contains_answering false) → ⊥
 unfound finds =
     let answer =
     finds 0 0 0 1 (Answer false) (finished-insert false) 1 2 3 false (finished-look_up false)
@@ -151,7 +151,7 @@ unfound finds =
     cc
 
 -- the clear's last step lies between the insert's beginning and the look-up's last step
-between : NoneTurnedOff 3 insert_in_clear 1 2 10 → ⊥
+between : NoneTurnedOff (IsPosition 128 3 1) insert_in_clear 2 10 → ⊥
 unfolding content chain
 between none =
     let on : turns_off insert_in_clear 6 64 ≡ true = refl in

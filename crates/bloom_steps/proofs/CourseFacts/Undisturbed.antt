@@ -30,7 +30,7 @@ only p x = let zeroth : x.index ≡ 0 = omega (arith, x.below) in
     sym x.here ∙ ap (place 64 0) zeroth
 
 -- a look-up across a clear of its first position is disturbed
-clear-disturbs : IsUndisturbed 2 disturbed 1 0 7 → ⊥
+clear-disturbs : IsUndisturbed (IsPosition 64 2 1) disturbed 0 7 → ⊥
 unfolding content
 clear-disturbs h =
     let off = h 3 0 (omega arith) (omega arith) first in
@@ -38,7 +38,7 @@ clear-disturbs h =
     both_ways (turns_off disturbed 3 0) off on
 
 -- a look-up on whose words nobody else works is undisturbed
-pub alone : IsUndisturbed 2 last_load_alone 1 0 2
+pub alone : IsUndisturbed (IsPosition 64 2 1) last_load_alone 0 2
 unfolding content
 alone zero p a b x = absurd (omega (arith, a))
 alone (suc zero) p a b x = never (content last_load_alone.start p)
@@ -46,14 +46,14 @@ alone (suc (suc zero)) p a b x = never (content last_load_alone.start p)
 alone (suc (suc (suc m))) p a b x = absurd (omega (arith, b))
 
 -- what is cleared just before its beginning and just after its end disturbs no look-up
-between-clears : IsUndisturbed 1 between_clears 0 5 6
+between-clears : IsUndisturbed (IsPosition 64 1 0) between_clears 5 6
 unfolding content
 between-clears m p a b x =
     let here : 6 ≡ m = omega (arith, a, b) in
     subst (λ n. turns_off between_clears n p ≡ false) here (never (moment between_clears 6 p))
 
 -- the clear before the look-up that lies between two does clear a position
-before-clears : NoneTurnedOff 1 between_clears 0 1 6 → ⊥
+before-clears : NoneTurnedOff (IsPosition 64 1 0) between_clears 1 6 → ⊥
 unfolding content chain
 before-clears h =
     let on : turns_off between_clears 1 0 ≡ true = refl in
@@ -61,7 +61,7 @@ before-clears h =
     (h 1 0 (omega arith) (omega arith) (place-position 64 1 0 0 (omega arith))) on
 
 -- the clear after the look-up that lies between two does clear a position
-after-clears : NoneTurnedOff 1 between_clears 0 6 7 → ⊥
+after-clears : NoneTurnedOff (IsPosition 64 1 0) between_clears 6 7 → ⊥
 unfolding content chain
 after-clears h =
     let on : turns_off between_clears 7 0 ≡ true = refl in
@@ -69,7 +69,7 @@ after-clears h =
     (h 7 0 (omega arith) (omega arith) (place-position 64 1 0 0 (omega arith))) on
 
 -- what is cleared at another position doesn't disturb a look-up
-elsewhere : IsUndisturbed 1 clear_elsewhere 0 0 3
+elsewhere : IsUndisturbed (IsPosition 64 1 0) clear_elsewhere 0 3
 unfolding content
 elsewhere m p a b x = subst (λ q. turns_off clear_elsewhere m q ≡ false) (sym (only p x)) (at m a b)
   where
@@ -96,7 +96,7 @@ within_clear = record {
 }
 
 -- the first record after a look-up's beginning disturbs it, and so does the last up to its end
-just-after : IsUndisturbed 1 within_clear 0 1 2 → ⊥
+just-after : IsUndisturbed (IsPosition 64 1 0) within_clear 1 2 → ⊥
 unfolding content chain
 just-after h =
     let on : turns_off within_clear 2 0 ≡ true = refl in

@@ -11,6 +11,7 @@ use Rattle.bloom_steps.specs.declared.steps.vocabulary.End.{End}
 use Rattle.bloom_steps.specs.declared.steps.vocabulary.Record.{Record}
 use Rattle.bloom_steps.specs.declared.steps.vocabulary.Record.TheVariants.{Began, Did}
 use Rattle.bloom_steps.specs.declared.steps.vocabulary.Step.{Step}
+use Rattle.bloom_steps.specs.CourseLaws.{BitsTell}
 use Rattle.bloom_steps.specs.Moments.{moment}
 use Rattle.bloom_steps.specs.Scripts.{Taken}
 use Rattle.bloom_steps.specs.Steps.{after_records, record_decides, step_decides}
@@ -52,7 +53,7 @@ past_step w k q (EachPair op on) s j t does past at =
     (λ i x off. does.0 i x q ∙ ap (λ b. if b then made on (bit_is_on x q) else None) off) past at)
 
 -- a record that doesn't decide to clear a position doesn't clear it
-not_off : (run : Course) (m q : ℕ) (r : Record) → slice_get run.records m ≡ Some r
+pub not_off : (run : Course) (m q : ℕ) (r : Record) → slice_get run.records m ≡ Some r
     → (record_decides r q ≡ None) ⊎ (record_decides r q ≡ Some true) → TurnsOff run m q → ⊥
 not_off run m q r g only off =
     let after = sym off.1 ∙ moment-more run m r q g in
@@ -79,13 +80,12 @@ none_off run q all m below off = let there = some_member run.records m below in 
     at (Began p call) g = not_off run m q (Began p call) g (inl refl) off
     at (Did p step found e) g = not_off run m q (Did p step found e) g (all m p step found e g) off
 
--- a lawful run
-module _ (k : ℕ) (run : Course) (lawful : IsLawful k run) where
+-- a course whose bits are what the last steps that decide them made them
+module _ (run : Course) (bits : BitsTell run) where
   -- the words hold the last moment
   pub content-end : (q : ℕ) → content run.words q ≡ moment run (length run.records) q
   content-end q =
-      lawful.bits q
-      ∙ ap (λ rs. after_records (content run.start) rs q) (sym (take-length run.records))
+      bits q ∙ ap (λ rs. after_records (content run.start) rs q) (sym (take-length run.records))
 
   -- where no step decides to clear a position, it stays set to the end once it is set
   pub stays_to_end : (q : ℕ) → NoneMakesOff run q → (m : ℕ) → m ≤ length run.records
@@ -96,6 +96,8 @@ module _ (k : ℕ) (run : Course) (lawful : IsLawful k run) where
       ∙ persists run q m (length run.records - m) (length run.records) (omega arith) on
       (λ n a b off. none_off run q all n b off)
 
+-- a lawful run
+module _ (k : ℕ) (run : Course) (lawful : IsLawful k run) where
   -- past the words nothing is ever set
   pub moment-past : (m q : ℕ) → m ≤ length run.records → length run.start ≤ q / 64
       → moment run m q ≡ false
@@ -108,4 +110,4 @@ module _ (k : ℕ) (run : Course) (lawful : IsLawful k run) where
       (past_step (length run.start) k q (plan_of h.of.call) h.of.s h.j h.t
       (plan_decides h.of.call) past h.at) in
       both_ways (content run.words q) (content-past run.words q (omega arith))
-      (stays_to_end q all m l on))
+      (stays_to_end run lawful.bits q all m l on))

@@ -11,7 +11,7 @@ use Rattle.bloom_steps.specs.declared.steps.vocabulary.Step.{Step}
 use Rattle.bloom_steps.specs.declared.steps.vocabulary.Step.TheVariants.{Or}
 use Rattle.bloom_steps.specs.Moments.{moment, turns_off, turns_on}
 use Rattle.bloom_steps.specs.Scripts.{Taken}
-use Rattle.bloom_steps.specs.Steps.{after_records, load_at, or_at, record_decides, step_decides}
+use Rattle.bloom_steps.specs.Steps.{after_records, or_at, record_decides, step_decides}
 use Rattle.bloom_steps.specs.Courses.{Course, IsLawful, MayFind}
 use Rattle.bloom_steps.proofs.StepLemmas.Deciding.{records-more}
 use Rattle.bloom_steps.proofs.StepLemmas.Members.{take-more}
@@ -37,7 +37,7 @@ and_cases true false = inr refl
 and_cases false b = inr refl
 
 -- the step that sets a position decides that it is set
-or_at-own : (q : ℕ) → step_decides (or_at q) q ≡ Some true
+pub or_at-own : (q : ℕ) → step_decides (or_at q) q ≡ Some true
 or_at-own q =
     ap (λ b. if b && bit_is_on (2 ^ (q % 64)) q then Some true else None)
     (eq-eqb (q / 64) (q / 64) refl)
@@ -130,12 +130,6 @@ module _ (k : ℕ) (run : Course) (lawful : IsLawful k run) (m party q : ℕ) (t
   -- a step that sets a position found its bit as it was
   pub found-or : t.step ≡ or_at q → bit_is_on t.found q ≡ moment run m q
   found-or step =
-      let finds = lawful.finds m party t.step t.found t.ended at in
-      (subst (λ x. MayFind (moment run m) x t.found) step finds).bits q refl
-
-  -- a step that reads the word of a position found its bit as it was
-  pub found-load : t.step ≡ load_at q → bit_is_on t.found q ≡ moment run m q
-  found-load step =
       let finds = lawful.finds m party t.step t.found t.ended at in
       (subst (λ x. MayFind (moment run m) x t.found) step finds).bits q refl
 

@@ -37,5 +37,5 @@ counts_gains k run lawful hash =
     hash-grows (plan_of call) (hash m p call g) in
     let parts =
     count_below-part (bits_of run) (content run.start) (content run.words)
-    (λ q on. stays_to_end k run lawful q (growing k run lawful grows q) 0 (omega arith) on) in
+    (λ q on. stays_to_end run lawful.bits q (growing k run lawful grows q) 0 (omega arith) on) in
     omega (arith, (takes_lose_nothing k run lawful each).whole, none, parts)

@@ -1,25 +1,20 @@
 -- Where a growing run's positions come from.
-use Rattle.bloom_steps.proofs.StepLemmas.Plans.{plan_decides, TurnsBy, on-tells, PlanDecides, on-only}
-use Rattle.bloom_steps.specs.declared.steps.vocabulary.Step.{Step}
+use Rattle.bloom_steps.proofs.StepLemmas.Plans.{plan_decides, PlanDecides, on-only}
 use Rattle.bloom_steps.specs.Plans.{turns_none_off, Plan, plan_of, TurnsOn, LooksAt, EachWord, EachPair}
 use Rattle.std.proofs.Common.{[], ◌%◌, ◌*◌, ◌/◌, ◌^◌, ◌∙◌, ◌∷◌, ◌≡◌, ◌⊎◌, Bool, List, None, Option, Some, ap, inl, inr, length, map, refl, slice_get, subst, suc, sym, true, unwrap_or, ℕ, false}
 use Rattle.std.proofs.lemmas.Bool.{both_ways}
-use Rattle.std.proofs.lemmas.Option.{none-some}
 use Rattle.bloom_parts.specs.Places.{place}
 use Rattle.bloom_steps.specs.declared.steps.vocabulary.Call.{Call}
-use Rattle.bloom_steps.specs.declared.steps.vocabulary.Call.TheVariants.{Clear, Contains, Insert, Intersect, Take, Union}
 use Rattle.bloom_steps.specs.declared.steps.vocabulary.Record.{Record}
 use Rattle.bloom_steps.specs.declared.steps.vocabulary.Record.TheVariants.{Began, Did}
-use Rattle.bloom_steps.specs.declared.steps.vocabulary.Step.TheVariants.{Or, Other}
-use Rattle.bloom_steps.specs.Interleavings.{IsFoundInOther, IsInserted}
-use Rattle.bloom_steps.specs.Moments.{EveryCall, bits_of}
+use Rattle.bloom_steps.specs.Moments.{EveryCall}
 use Rattle.bloom_steps.specs.Scripts.{Taken}
 use Rattle.bloom_steps.specs.Steps.{after_records, record_decides, step_decides}
 use Rattle.bloom_steps.specs.Courses.{Course, IsLawful}
 use Rattle.bloom_steps.proofs.RunLemmas.Bounds.{NoneMakesOff}
-use Rattle.bloom_steps.proofs.RunLemmas.Changes.{DecidesOnly, or-decides_only, or_at-decides}
+use Rattle.bloom_steps.proofs.RunLemmas.Changes.{DecidesOnly, or-decides_only}
 use Rattle.bloom_steps.proofs.RunLemmas.RecordedCalls.{step_held}
-use Rattle.bloom_steps.proofs.RunLemmas.PlacedSteps.{IsPlacedAt, IsPairAt}
+use Rattle.bloom_steps.proofs.RunLemmas.PlacedSteps.{IsPlacedAt}
 use Rattle.bloom_steps.proofs.StepLemmas.Deciding.{state-first}
 
 -- some record decides to set a position
@@ -78,61 +73,3 @@ module _ (k : ℕ) (run : Course) (lawful : IsLawful k run)
       subst (DecidesOnly (Some true) q) h.same_step
       (grows_at (length run.start) k q (plan_of h.of.call) h.of.s h.j h.t (plan_decides h.of.call)
       (none_off began.0 p h.of.call began.1) h.at)
-
-  -- what the write of a pair set was found in the other filter
-  found_by : (op : ℕ → ℕ → Step) (on : Bool) (q p : ℕ) (s : List Taken) (t : Taken) → TurnsBy op on
-      → on ≡ true → HasSteps run p s → IsPairAt (length run.start) op s t
-      → step_decides t.step q ≡ Some true → IsFoundInOther run q
-  found_by op on q p s t does is steps at e = elim at.either [
-    | inl load ↦ absurd (none-some true (ap (λ x. step_decides x q) (sym load) ∙ e))
-    | inr u ↦
-        let makes = ap (λ x. step_decides x q) (sym u.3) ∙ e in
-        let its = on-tells op on does is at.i u.0.found q makes in
-        let n = steps (2 * at.i) u.0 u.1 in
-        let load = u.2 ∙ ap Other (sym its.0) in
-        record {
-          m = n.0;
-          party = p;
-          found = u.0.found;
-          ended = u.0.ended;
-          reads = n.1 ∙ ap (λ x. Some (Did p x u.0.found u.0.ended)) load;
-          on = its.1;
-        }
-  ]
-
-  -- what a step set was inserted, or found in the other filter
-  origin : (q p : ℕ) (call : Call) (s : List Taken) (j : ℕ) (t : Taken) → HasBegun run p call
-      → HasSteps run p s
-      → IsPlacedAt (length run.start) k (plan_of call) s j t → step_decides t.step q ≡ Some true
-      → IsInserted k run q ⊎ IsFoundInOther run q
-  origin q p (Insert h) s j t began steps at e = elim (or_at-decides (place (bits_of run) h j) q) [
-    | inl here ↦ inl
-        (record {
-          m = began.0;
-          party = p;
-          hash = h;
-          begins = began.1;
-          position = record { index = j; below = at.0; here = sym here.0 };
-        })
-    | inr other ↦ absurd (none-some true (sym other.1 ∙ ap (λ x. step_decides x q) (sym at.1) ∙ e))
-  ]
-  origin q p (Contains h) s j t began steps at e =
-      absurd (none-some true (ap (λ x. step_decides x q) (sym at) ∙ e))
-  origin q p Clear s j t began steps at e =
-      absurd (both_ways false refl (none_off began.0 p Clear began.1))
-  origin q p Union s j t began steps at e =
-      inr (found_by Or true q p s t (plan_decides Union).0 refl steps at e)
-  origin q p Intersect s j t began steps at e =
-      absurd (both_ways false refl (none_off began.0 p Intersect began.1))
-  origin q p Take s j t began steps at e =
-      absurd (both_ways false refl (none_off began.0 p Take began.1))
-
-  -- what a record set was so too
-  pub origin_of : (q m : ℕ) (r : Record) → slice_get run.records m ≡ Some r
-      → record_decides r q ≡ Some true
-      → IsInserted k run q ⊎ IsFoundInOther run q
-  origin_of q m (Began p call) g e = absurd (none-some true e)
-  origin_of q m (Did p step found ended) g e =
-      let h = step_held k run lawful m p step found ended g in
-      origin q p h.of.call h.of.s h.j h.t h.of.began h.of.members h.at
-      (ap (λ x. step_decides x q) h.same_step ∙ e)

@@ -61,7 +61,7 @@ takes_lose_nothing k run lawful each =
     let gains = ap (count_by found_off) all in
     let takes = ap (sum_by bits_taken) all in
     let end : count_below (bits_of run) (content run.words) ≡ on_at run (length run.records) =
-    count_below-same (bits_of run) _ _ (λ q l. content-end k run lawful q) in
+    count_below-same (bits_of run) _ _ (λ q l. content-end run lawful.bits q) in
     record {
       always = balance k run lawful each;
       whole = omega (arith, last, gains, takes, end);

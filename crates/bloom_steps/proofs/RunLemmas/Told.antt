@@ -2,21 +2,17 @@
 use Rattle.std.proofs.Common.{[], ◌≡◌, ◌≤◌, List, Ok, length, subst, sym, take_all, ℕ}
 use Rattle.std.specs.Prelude.{IsOkUnless}
 use Rattle.bloom_parts.specs.Content.{AreWords}
+use Rattle.bloom_parts.specs.Places.{IsPosition, are_in}
 use Rattle.bloom_parts.specs.declared.error.FilterError.TheVariants.{Memory}
 use Rattle.bloom_steps.specs.declared.steps.runner.World.{World}
 use Rattle.bloom_steps.specs.declared.steps.vocabulary.Event.{Event}
 use Rattle.bloom_steps.specs.Courses.{Course, Follows, FollowsFrom, IsLawful}
 use Rattle.bloom_steps.specs.Interleavings.{ContainsTell, CountsGains, EndsWithAll, FindsInserted, InsertsTell, TakesLoseNothing}
+use Rattle.bloom_steps.specs.Moments.{bits_of}
 use Rattle.bloom_steps.specs.Sequences.{ActsAsCommands}
-use Rattle.bloom_steps.proofs.RunLemmas.Commands.{acts_as_commands}
-use Rattle.bloom_steps.proofs.RunLemmas.Contains.{contains_tell}
+use Rattle.bloom_steps.proofs.RunLemmas.CourseLaws.{course_law}
 use Rattle.bloom_steps.proofs.RunLemmas.Follows.{HasRun}
-use Rattle.bloom_steps.proofs.RunLemmas.Found.{finds_inserted}
-use Rattle.bloom_steps.proofs.RunLemmas.Gained.{counts_gains}
-use Rattle.bloom_steps.proofs.RunLemmas.Grows.{ends_with_all}
-use Rattle.bloom_steps.proofs.RunLemmas.Inserts.{inserts_tell}
 use Rattle.bloom_steps.proofs.RunLemmas.Lawful.{lawful_world}
-use Rattle.bloom_steps.proofs.RunLemmas.Taken.{takes_lose_nothing}
 
 -- the clauses of a run that wasn't refused
 abbrev pub TellsAll : ℕ → ℕ → List ℕ → List Event → Course → Type 0
@@ -25,8 +21,8 @@ TellsAll k parties words schedule run = record {
   follows : Follows parties words schedule run;
   commands : ActsAsCommands k run;
   inserts : InsertsTell run;
-  contains : ContainsTell k run;
-  found : FindsInserted k run;
+  contains : ContainsTell (IsPosition (bits_of run) k) (are_in (bits_of run) k) run;
+  found : FindsInserted (IsPosition (bits_of run) k) run;
   grows : EndsWithAll k run;
   gained : CountsGains run;
   taken : TakesLoseNothing run;
@@ -57,15 +53,16 @@ module _ (k parties : ℕ) (words : List ℕ) (schedule : List Event) (i : ℕ) 
       let lawful = lawful_world k course now.machines.items so_far.world made.fit in
       let some : 1 ≤ length course.start =
       subst (λ l. 1 ≤ length l) (sym so_far.start) some_words in
+      let tells = course_law k course some_hashes some lawful in
       record {
         lawful = lawful;
         follows = record { begins = so_far.start; events = follows_all };
-        commands = acts_as_commands k course lawful some some_hashes;
-        inserts = inserts_tell k course lawful some some_hashes;
-        contains = contains_tell k course lawful some some_hashes;
-        found = finds_inserted k course lawful some some_hashes;
-        grows = ends_with_all k course lawful;
-        gained = counts_gains k course lawful;
-        taken = takes_lose_nothing k course lawful;
+        commands = tells.commands;
+        inserts = tells.each.inserts;
+        contains = tells.each.contains;
+        found = tells.each.found;
+        grows = tells.grows;
+        gained = tells.gained;
+        taken = tells.taken;
         refused = tt;
       })

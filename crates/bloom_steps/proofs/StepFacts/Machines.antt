@@ -1,5 +1,5 @@
 -- Where a machine stands, what it asks and answers, and what is near that and doesn't hold.
-use Rattle.std.proofs.Common.{◌∷◌, [], ℕ, None, Some, true, false, refl, arith, inl, lit<, ◌+◌, ◌*◌, ◌/◌, ◌%◌, ◌^◌, ◌∙◌, ◌<◌, ap, sym, add-one}
+use Rattle.std.proofs.Common.{◌∷◌, [], ℕ, None, Some, true, false, refl, arith, inl, lit<, ◌+◌, ◌*◌, ◌/◌, ◌%◌, ◌^◌, ◌∙◌, ap, sym, add-one}
 use Rattle.std.specs.Int.{rotate_left, w64}
 use Rattle.bloom_parts.specs.Places.{place}
 use Rattle.bloom_steps.specs.Standing.{Replied}

@@ -1,12 +1,11 @@
 -- What the steps of a plan decide.
-use Rattle.std.proofs.Common.{◌/◌, ◌≡◌, ◌∙◌, ◌⊎◌, [], Bool, ap, inl, inr, sym, None, Option, Some, false, if◌then◌else◌, nat_eq, not, ◌&&◌, refl, true, ℕ}
-use Rattle.std.proofs.lemmas.Bool.{both_ways, eq-eqb, eqb-true}
-use Rattle.std.proofs.lemmas.Option.{none-some}
+use Rattle.std.proofs.Common.{◌/◌, ◌≡◌, ◌∙◌, ◌⊎◌, [], Bool, ap, inl, inr, None, Option, Some, false, if◌then◌else◌, nat_eq, not, ◌&&◌, refl, true, ℕ}
+use Rattle.std.proofs.lemmas.Bool.{both_ways}
 use Rattle.bloom_parts.specs.Content.{bit_is_on}
 use Rattle.bloom_steps.specs.declared.steps.vocabulary.Call.{Call}
 use Rattle.bloom_steps.specs.declared.steps.vocabulary.Call.TheVariants.{Clear, Contains, Insert, Intersect, Take, Union}
 use Rattle.bloom_steps.specs.declared.steps.vocabulary.Step.{Step}
-use Rattle.bloom_steps.specs.declared.steps.vocabulary.Step.TheVariants.{And, Or, Other}
+use Rattle.bloom_steps.specs.declared.steps.vocabulary.Step.TheVariants.{And, Or}
 use Rattle.bloom_steps.specs.Plans.{EachPair, EachWord, LooksAt, Plan, TurnsOn, goes_by_hash, plan_of, turns_none_off}
 use Rattle.bloom_steps.specs.Sequences.{found_in_other}
 use Rattle.bloom_steps.specs.Steps.{step_decides}
@@ -82,31 +81,6 @@ on-only op on by is i x q =
     go true true = inr refl
     go true false = inl refl
     go false b = inl refl
-
--- what an operation that sets bits sets is a position of its word that the word given has
-pub on-tells : (op : ℕ → ℕ → Step) (on : Bool) → TurnsBy op on → on ≡ true → (i x q : ℕ)
-    → step_decides (op i x) q ≡ Some true → (q / 64 ≡ i) × (bit_is_on x q ≡ true)
-on-tells op on by is i x q e =
-    let decides =
-    by i x q ∙ ap (λ o. if nat_eq (q / 64) i then made o (bit_is_on x q) else None) is in
-    let parts = go (nat_eq (q / 64) i) (bit_is_on x q) (sym decides ∙ e) in
-    (eqb-true (q / 64) i parts.0, parts.1)
-  where
-    go : (a b : Bool) → (if a then made true b else None) ≡ Some true → (a ≡ true) × (b ≡ true)
-    go true true f = (refl, refl)
-    go true false f = absurd (none-some true f)
-    go false b f = absurd (none-some true f)
-
--- an operation that sets bits sets each position of its word that the word given has
-pub on-does : (op : ℕ → ℕ → Step) (on : Bool) → TurnsBy op on → on ≡ true → (i x q : ℕ)
-    → q / 64 ≡ i → bit_is_on x q ≡ true → step_decides (op i x) q ≡ Some true
-on-does op on by is i x q at bit =
-    by i x q ∙ ap (λ a. if a then made on (bit_is_on x q) else None) (eq-eqb (q / 64) i at)
-    ∙ ap (λ b. made on b) bit ∙ ap (λ o. made o true) is
-
--- an operation that doesn't read the other filter is no read of it
-pub no-read : (op : ℕ → ℕ → Step) → ReadsNoOther op → (i x j : ℕ) → op i x ≡ Other j → ⊥
-no-read op plain i x j e = let none = sym (ap (λ s. found_in_other s 0) e) ∙ plain i x 0 in cc
 
 -- a plan that goes by a hash clears nothing
 pub hash-grows : (plan : Plan) → goes_by_hash plan ≡ true → turns_none_off plan ≡ true

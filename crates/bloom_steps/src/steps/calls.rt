@@ -214,7 +214,7 @@ pub fn load_into<W: TurnWords>(words: &W, loaded: &mut [u64])
     }
 }
 
-/// The number of bits that are set, of the words as they were loaded, one after the other.
+/// The number of bits that are set, of the words as they were loaded.
 #[inline]
 pub fn count_ones<W: TurnWords>(words: &W) -> usize
     ensures { CountsLoaded (W.vector words.now) result }

@@ -1,9 +1,11 @@
 //! The steps of many calls, in any order.
 ghost use Rattle.std.specs.Prelude.{◌≡◌, ◌+◌, ◌≤◌, ◌<◌, ◌^◌, [], length, vec_len, vec_capacity, IfOk, IsOkUnless};
 ghost use Rattle.bloom_steps.specs.declared.steps.vocabulary.Event.TheVariants.{Begin, Go};
+ghost use Rattle.bloom_parts.specs.Places.{IsPosition, are_in};
 ghost use Rattle.bloom_steps.specs.Interleavings.{InsertsTell, ContainsTell, FindsInserted, EndsWithAll, CountsGains, TakesLoseNothing};
 ghost use Rattle.bloom_steps.specs.Sequences.{ActsAsCommands};
 ghost use Rattle.bloom_steps.specs.Courses.{IsLawful, Follows};
+ghost use Rattle.bloom_steps.specs.Moments.{bits_of};
 ghost use Rattle.bloom_steps.specs.Worlds.{IsWorldOf, Happens, slot_runs};
 
 use super::machine::Machine;
@@ -46,8 +48,10 @@ pub fn run(
     ensures commands { IfOk result (λ course. ActsAsCommands num_hashes course) }
     // An insert replies for its own steps; a look-up is right at one moment; an insert is found.
     ensures inserts { IfOk result (λ course. InsertsTell course) }
-    ensures contains { IfOk result (λ course. ContainsTell num_hashes course) }
-    ensures found { IfOk result (λ course. FindsInserted num_hashes course) }
+    ensures contains { IfOk result (λ course. ContainsTell
+        (IsPosition (bits_of course) num_hashes) (are_in (bits_of course) num_hashes) course) }
+    ensures found { IfOk result (λ course. FindsInserted (IsPosition (bits_of course) num_hashes)
+        course) }
     // A growing run ends alike in any order, and each position is set once.
     ensures grows { IfOk result (λ course. EndsWithAll num_hashes course) }
     ensures gained { IfOk result (λ course. CountsGains course) }

@@ -29,8 +29,8 @@ impl<S> AtomicBloomFilter<S> {
         self.words.iter()
     }
 
-    /// Whether both filters have equal numbers of words and of hashes, and equal words. The words
-    /// are loaded one after the other, up to the first that differ. The hashers aren't compared.
+    /// Whether both filters have equal numbers of words and of hashes, and equal words as they were
+    /// loaded. The hashers aren't compared.
     pub fn same_words(&self, other: &Self) -> bool
         ensures { MatchBool result (WereFoundAlike self.now other.now)
             ((HaveSameShape self.now other.now → ⊥) ⊎ WereFoundToDiffer self.now other.now) }
@@ -82,8 +82,7 @@ impl<S> AtomicBloomFilter<S> {
 }
 
 impl<S: Clone> AtomicBloomFilter<S> {
-    /// A filter of the same shape with the words as they were loaded, one after the other, and the
-    /// clone of the hasher.
+    /// A filter of the same shape with the words as they were loaded, and the clone of the hasher.
     ///
     /// # Errors
     /// `Memory` where there is no room for the words, or none for the clone of the hasher.

@@ -15,7 +15,7 @@ use bloom_plain::{BitsData, FilterData, shape_of_data};
 use std::alloc::Global;
 
 impl AtomicBloomFilter {
-    /// The filter as plain data, with the words as they were loaded, one after the other.
+    /// The filter as plain data, with the words as they were loaded.
     ///
     /// # Errors
     /// `Memory` where there is no room for the words.

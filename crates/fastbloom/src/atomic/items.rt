@@ -6,8 +6,8 @@ ghost use Rattle.std.specs.List.{concat};
 ghost use Rattle.std.specs.Iterator.{IsFiniteIterable};
 ghost use Rattle.std.specs.Iterator.Runs.{WholeRun};
 ghost use Rattle.bloom_steps.specs.declared.steps.vocabulary.Call.TheVariants.{Contains, Insert};
-ghost use Rattle.bloom_steps.specs.LiveSteps.{EachInTurn, MakesCallInTurn, WasInserted};
-ghost use Rattle.fastbloom.specs.Shared.{MakesCall, MakesInsert, MakesInserts};
+ghost use Rattle.bloom_steps.specs.LiveSteps.{EachInTurn, MakesCallInTurn, MakesCallOn, WasInserted};
+ghost use Rattle.fastbloom.specs.Shared.{MakesInserts};
 ghost use Rattle.bloom_plain.specs.SourceHash.{source_hash_of, lent_hash_of, IsFunctionOfBytes};
 
 use super::AtomicBloomFilter;
@@ -42,11 +42,13 @@ impl<S: BuildHasher> AtomicBloomFilter<S> {
     #[inline]
     pub fn insert<T: Hash>(&self, val: &T) -> bool
         ensures made { let hash = source_hash_of S.BuildHasher S.Hasher.Hasher T.hash_input in
-            MakesInsert self.now (hash self.now.hasher val.now) result }
+            MakesCallOn self.now.words self.now.words self.now.hashes
+            (Insert (hash self.now.hasher val.now)) (Some result) }
         // An equal item would have been inserted alike.
         ensures alike { let hash = source_hash_of S.BuildHasher S.Hasher.Hasher T.hash_input in
             (other : T) → IsTrue (T.eq val.now other)
-            → MakesInsert self.now (hash self.now.hasher other) result }
+            → MakesCallOn self.now.words self.now.words self.now.hashes
+            (Insert (hash self.now.hasher other)) (Some result) }
     {
         self.insert_hash(self.source_hash(val))
     }
@@ -55,10 +57,12 @@ impl<S: BuildHasher> AtomicBloomFilter<S> {
     #[inline]
     pub fn contains<T: Hash>(&self, val: &T) -> bool
         ensures made { let hash = source_hash_of S.BuildHasher S.Hasher.Hasher T.hash_input in
-            MakesCall self.now self.now (Contains (hash self.now.hasher val.now)) (Some result) }
+            MakesCallOn self.now.words self.now.words self.now.hashes
+            (Contains (hash self.now.hasher val.now)) (Some result) }
         // An equal item is found alike.
         ensures alike { let hash = source_hash_of S.BuildHasher S.Hasher.Hasher T.hash_input in
-            (other : T) → IsTrue (T.eq val.now other) → MakesCall self.now self.now
+            (other : T) → IsTrue (T.eq val.now other)
+            → MakesCallOn self.now.words self.now.words self.now.hashes
             (Contains (hash self.now.hasher other)) (Some result) }
     {
         self.contains_hash(self.source_hash(val))

@@ -37,9 +37,8 @@ impl<S> AtomicBloomFilter<S> {
         capacity(self.num_hashes, self.num_bits(), rate)
     }
 
-    /// Two bounds of the rate of false positives of the filter, by its words as they were loaded,
-    /// one after the other: the part of all look-ups, each a draw of positions, for which such
-    /// words return true.
+    /// Two bounds of the rate of false positives of the filter, by its words as they were loaded:
+    /// the part of all look-ups, each a draw of positions, for which such words return true.
     pub fn false_pos_now(&self) -> Bracket
         ensures { BoundsLoaded self.now result }
     {

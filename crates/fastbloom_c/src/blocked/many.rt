@@ -2,7 +2,7 @@
 //! owns.
 ghost use Rattle.std.specs.Prelude.{◌≡◌, ◌↔◌, ℕ, ◌*◌, ◌/◌, ◌≤◌, ◌||◌, false, IsTrue, length, max};
 ghost use Rattle.bloom_parts.specs.Content.{content};
-ghost use Rattle.bloom_blocked.specs.Many.{positions_of_all, TellsFound, TellsNew};
+ghost use Rattle.bloom_blocked.specs.Many.{positions_in_lines, TellsFoundInLines, TellsNewInLines};
 
 use bloom_blocked::by_hash::LINE;
 use bloom_blocked::many;
@@ -16,7 +16,7 @@ pub extern "C" fn fastbloom_blocked_insert_hashes(
 ) -> bool
     ensures done { IsTrue result ↔ (8 ≤ length words.old) }
     ensures content { IsTrue result → (p : ℕ) → content words.new p ≡ (content words.old p
-        || positions_of_all (length words.old / 8) (max 1 num_hashes) hashes.now p) }
+        || positions_in_lines (length words.old / 8) (max 1 num_hashes) hashes.now p) }
     ensures stays { result ≡ false → words.new ≡ words.old }
     ensures shape { length words.new ≡ length words.old }
 {
@@ -47,7 +47,7 @@ pub extern "C" fn fastbloom_blocked_contains_hashes(
 ) -> bool
     ensures done { IsTrue result
         ↔ ((8 ≤ length words.now) × (length hashes.now ≤ 64 * length found.old)) }
-    ensures found { IsTrue result → TellsFound (length words.now / 8) (max 1 num_hashes)
+    ensures found { IsTrue result → TellsFoundInLines (length words.now / 8) (max 1 num_hashes)
         (content words.now) hashes.now found.new }
     ensures stays { result ≡ false → found.new ≡ found.old }
     ensures shape { length found.new ≡ length found.old }
@@ -73,10 +73,10 @@ pub extern "C" fn fastbloom_blocked_insert_hashes_tell_new(
 ) -> bool
     ensures done { IsTrue result
         ↔ ((8 ≤ length words.old) × (length hashes.now ≤ 64 * length fresh.old)) }
-    ensures fresh { IsTrue result → TellsNew (length words.old / 8) (max 1 num_hashes)
+    ensures fresh { IsTrue result → TellsNewInLines (length words.old / 8) (max 1 num_hashes)
         (content words.old) hashes.now fresh.new }
     ensures content { IsTrue result → (p : ℕ) → content words.new p ≡ (content words.old p
-        || positions_of_all (length words.old / 8) (max 1 num_hashes) hashes.now p) }
+        || positions_in_lines (length words.old / 8) (max 1 num_hashes) hashes.now p) }
     ensures words_stay { result ≡ false → words.new ≡ words.old }
     ensures fresh_stay { result ≡ false → fresh.new ≡ fresh.old }
     ensures words_shape { length words.new ≡ length words.old }

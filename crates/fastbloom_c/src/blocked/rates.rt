@@ -53,8 +53,7 @@ fn rate_of(words: &RawWords, num_hashes: u32) -> Bracket
     false_pos_of_shared_lines(&LentWords::new(words), num_hashes)
 }
 
-/// The same of a filter that threads share, of its words as they were loaded, one after the other,
-/// each once.
+/// The same of a filter that threads share, of its words as they were loaded.
 #[unsafe(no_mangle)]
 pub extern "C" fn fastbloom_blocked_shared_rate_now(
     words: PassedWords,

@@ -1,6 +1,7 @@
 //! Calls on many hashes, on a blocked filter that threads share.
 ghost use Rattle.std.specs.Prelude.{◌≡◌, ◌↔◌, ◌*◌, ◌≤◌, false, IsTrue, length, max};
-ghost use Rattle.fastbloom_c.specs.BlockedShared.{SetsInLines, TellsLooksInLines, TellsSetsInLines};
+ghost use Rattle.bloom_blocked.specs.LineSteps.{WereSetInLines};
+ghost use Rattle.fastbloom_c.specs.BlockedShared.{TellsLooksInLines, TellsSetsInLines};
 ghost use Rattle.fastbloom_c.specs.Passed.{MakeLines, vector_of};
 
 use super::many::have_room;
@@ -24,7 +25,7 @@ pub extern "C" fn fastbloom_blocked_shared_insert_hashes(
 ) -> bool
     ensures done { IsTrue result ↔ MakeLines words.len }
     ensures made { IsTrue result
-        → SetsInLines (vector_of words.at words.len) (max 1 num_hashes) hashes.now }
+        → WereSetInLines (vector_of words.at words.len) (max 1 num_hashes) hashes.now }
 {
     let words = words.shared();
     let accepted = make_lines(words.len());

@@ -4,7 +4,7 @@ use Rattle.std.proofs.Math.Bool.{or-false}
 use Rattle.bloom_parts.specs.Content.{content}
 use Rattle.bloom_parts.proofs.PublishedLemmas.{content-zeros}
 use Rattle.bloom_blocked.specs.Lines.{are_in_line}
-use Rattle.bloom_blocked.specs.Many.{after_first}
+use Rattle.bloom_blocked.specs.Many.{lines_after}
 use Rattle.bloom_blocked.proofs.TellLemmas.{after-next, tells-next}
 use Rattle.bloom_blocked.proofs.many.telling.insert_each_telling.Goals as goal
 
@@ -13,7 +13,7 @@ hashes-init c =
     let n = length c.args.words.now / 8 in
     let k = c.args.num_hashes in
     let F : ℕ → Bool = λ p. not (are_in_line n k (slice_index c.args.hashes.now p)
-    (after_first n k (content c.args.words.now) c.args.hashes.now p)) in
+    (lines_after n k (content c.args.words.now) c.args.hashes.now p)) in
     record {
       bits = λ p. content-zeros 1 p ∙ ap (λ b. b && F p) (sym (le-ltb p 0 (omega arith)));
       content = λ p. sym (or-false (content c.args.words.now p));

@@ -1,6 +1,5 @@
 -- Records that were carried out on words, one after the other: what each step found, and did.
-use Rattle.std.proofs.Common.{[], ◌&&◌, ◌+◌, ◌/◌, ◌∙◌, ◌∷◌, ◌≡◌, List, None, Some, ap, eq-eqb, if◌then◌else◌, false, inl, inr, map, nat_eq, refl, slice_get, slice_index, suc, sym, take, true, unwrap_or, zero, ℕ}
-use Rattle.std.proofs.lemmas.Bool.{both_ways, eqb-true}
+use Rattle.std.proofs.Common.{[], ◌/◌, ◌∙◌, ◌∷◌, ◌≡◌, List, Some, ap, map, refl, slice_get, slice_index, suc, sym, take, unwrap_or, zero, ℕ}
 use Rattle.std.proofs.lemmas.Option.{none-some, same_Some}
 use Rattle.bloom_parts.specs.Content.{bit_is_on, content}
 use Rattle.bloom_parts.specs.Deciders.{decides_nothing}
@@ -8,16 +7,20 @@ use Rattle.bloom_steps.specs.declared.steps.vocabulary.End.{End}
 use Rattle.bloom_steps.specs.declared.steps.vocabulary.Record.{Record}
 use Rattle.bloom_steps.specs.declared.steps.vocabulary.Record.TheVariants.{Began, Did}
 use Rattle.bloom_steps.specs.declared.steps.vocabulary.Step.{Step}
-use Rattle.bloom_steps.specs.declared.steps.vocabulary.Step.TheVariants.{Load, Or}
+use Rattle.bloom_steps.specs.declared.steps.vocabulary.Step.TheVariants.{And, Load, Or, Other, Take, Zero}
+use Rattle.bloom_steps.specs.Carried.{CarriedOut, IsCourseOf}
+use Rattle.bloom_steps.specs.CourseLaws.{CourseTells}
 use Rattle.bloom_steps.specs.Courses.{Course}
 use Rattle.bloom_steps.specs.Memories.{found_in, words_after_step}
-use Rattle.bloom_steps.specs.Moments.{moment, turns_on}
+use Rattle.bloom_steps.specs.Moments.{moment}
 use Rattle.bloom_steps.specs.Scripts.{Taken}
 use Rattle.bloom_steps.specs.Steps.{after_records, record_decides, step_decides, word_index}
-use Rattle.bloom_steps.proofs.CourseLemmas.{and_cases, moment-more, turned_on, did_of-same}
+use Rattle.bloom_steps.proofs.RunLemmas.KindEnds.{kind_tells}
+use Rattle.bloom_steps.proofs.RunLemmas.Kinds.{Kind}
+use Rattle.bloom_steps.proofs.RunLemmas.PartyRecords.{did_of-same}
+use Rattle.bloom_steps.proofs.RunLemmas.Scripted.{FindsBits, FoundBits}
 use Rattle.bloom_steps.proofs.StepLemmas.Deciding.{state-first, state-same}
 use Rattle.bloom_steps.proofs.StepLemmas.Writing.{content-step, content-word}
-use Rattle.bloom_blocked.specs.LineCourses.{CarriedOut}
 
 -- a step that was carried out can be taken into the words before
 after-step : (words : List ℕ) (step : Step) (rs : List Record) (p party found : ℕ) (ended : End)
@@ -31,7 +34,7 @@ after-step words step rs p party found ended did =
     ∙ sym (state-first (content words) (step_decides step) (map record_decides rs) p)
 
 -- each bit is what the last step that decides it made it
-pub carried-bits : (words : List ℕ) (rs : List Record) (after : List ℕ) (p : ℕ)
+carried-bits : (words : List ℕ) (rs : List Record) (after : List ℕ) (p : ℕ)
     → CarriedOut words rs after → content after p ≡ after_records (content words) rs p
 carried-bits words [] after p made = ap (λ w. content w p) made
 carried-bits words (Began party call ∷ rs) after p made =
@@ -42,7 +45,7 @@ carried-bits words (Did party step found ended ∷ rs) after p (within, finds, m
     ∙ after-step words step rs p party found ended (content-step words step p within)
 
 -- a step that finds its word found each bit there as it was
-pub carried-found : (words : List ℕ) (rs : List Record) (after : List ℕ) → CarriedOut words rs after
+carried-found : (words : List ℕ) (rs : List Record) (after : List ℕ) → CarriedOut words rs after
     → (m party : ℕ) (step : Step) (found : ℕ) (ended : End)
     → slice_get rs m ≡ Some (Did party step found ended)
     → ((ws : List ℕ) (given : ℕ) → found_in ws given step ≡ slice_index ws (word_index step))
@@ -68,43 +71,33 @@ carried-found words (Did q x f d ∷ rs) after (within, finds, made) (suc m) par
     carried-found (words_after_step words x) rs after made m party step found ended e reads p at
     ∙ after-step words x (take m rs) p q f d (content-step words x p within)
 
--- a course whose records were carried out
-module _ (run : Course) (made : CarriedOut run.start run.records run.words) where
-  -- a load found each bit as it was
-  pub load-found : (m party word found : ℕ) (ended : End)
-      → slice_get run.records m ≡ Some (Did party (Load word) found ended)
-      → (p : ℕ) → p / 64 ≡ word → bit_is_on found p ≡ moment run m p
-  load-found m party word found ended here p at =
-      carried-found run.start run.records run.words made m party (Load word) found ended here
-      (λ ws given. refl) p at
+-- in a course that was carried out each step finds the bits that are there
+pub carried-finds : (run : Course) → CarriedOut run.start run.records run.words → FindsBits run
+carried-finds run made m party = go
+  where
+    bits : (step : Step) (found : ℕ) (ended : End)
+        → slice_get run.records m ≡ Some (Did party step found ended)
+        → ((ws : List ℕ) (given : ℕ) → found_in ws given step ≡ slice_index ws (word_index step))
+        → (p : ℕ) → p / 64 ≡ word_index step → bit_is_on found p ≡ moment run m p
+    bits = carried-found run.start run.records run.words made m party
 
-  -- a step that sets a mask
-  module _ (m party word mask found : ℕ) (ended : End)
-      (here : slice_get run.records m ≡ Some (Did party (Or word mask) found ended)) where
-    -- it found each bit as it was
-    pub or-found : (p : ℕ) → p / 64 ≡ word → bit_is_on found p ≡ moment run m p
-    or-found p at =
-        carried-found run.start run.records run.words made m party (Or word mask) found ended here
-        (λ ws given. refl) p at
+    go : (step : Step) (found : ℕ) (ended : End)
+        → slice_get run.records m ≡ Some (Did party step found ended)
+        → FoundBits (moment run m) step found
+    go (Load i) found ended at = bits (Load i) found ended at (λ ws given. refl)
+    go (Or i mask) found ended at = bits (Or i mask) found ended at (λ ws given. refl)
+    go (And i mask) found ended at = bits (And i mask) found ended at (λ ws given. refl)
+    go (Zero i) found ended at = tt
+    go (Other i) found ended at = tt
+    go (Take i) found ended at = bits (Take i) found ended at (λ ws given. refl)
 
-    -- it set each bit of its mask
-    pub or-sets : (p : ℕ) → p / 64 ≡ word → bit_is_on mask p ≡ true → moment run (m + 1) p ≡ true
-    or-sets p at on =
-        moment-more run m (Did party (Or word mask) found ended) p here
-        ∙ ap (λ b. unwrap_or (if b && bit_is_on mask p then Some true else None) (moment run m p))
-        (eq-eqb (p / 64) word at)
-        ∙ ap (λ b. unwrap_or (if b then Some true else None) (moment run m p)) on
-
-    -- it set no other
-    pub or-only : (p : ℕ) → turns_on run m p ≡ true
-        → (p / 64 ≡ word) × (bit_is_on mask p ≡ true) × (moment run m p ≡ false)
-    or-only p turns =
-        let (off, after) = turned_on run m p turns in
-        elim (and_cases (nat_eq (p / 64) word) (bit_is_on mask p)) [
-          | inl both ↦ (eqb-true (p / 64) word both.0, both.1, off)
-          | inr none ↦
-              let stays =
-              moment-more run m (Did party (Or word mask) found ended) p here
-              ∙ ap (λ b. unwrap_or (if b then Some true else None) (moment run m p)) none in
-              absurd (both_ways (moment run m p) off (sym stays ∙ after))
-        ]
+-- a course of a kind gives what each kind gives
+pub course_tells : (kind : Kind) (words : ℕ) (run : Course) → IsCourseOf words kind.Script run
+    → CourseTells kind.Positions kind.is_in run
+course_tells kind words run course =
+    kind_tells kind run
+    (record {
+      finds = carried-finds run course.carried;
+      bits = λ p. carried-bits run.start run.records run.words p course.carried;
+      calls = course.calls;
+    })
