@@ -327,7 +327,7 @@ class Calls(unittest.TestCase):
 
     def test_a_call_that_a_release_interrupts_ends_with_the_words_that_it_had(self):
         """Another thread releases the filter, and closes its memory once no call has it."""
-        hashes = array.array("Q", range(0, 2**64, 2**42))
+        hashes = array.array("Q", range(0, 2**64, 2**50))
         for filters in (SharedFilter, SharedBlockedFilter):
             for name in ("add_hashes", "contains_hashes", "add_hashes_tell_new"):
                 memory, started = mmap.mmap(-1, 1 << 22), threading.Event()
