@@ -7,8 +7,8 @@ use Rattle.bloom_parts.specs.Content.{content}
 use Rattle.bloom_parts.specs.Made.{SharedWords}
 use Rattle.bloom_parts.proofs.PublishedLemmas.{content-zeros}
 use Rattle.bloom_steps.specs.declared.steps.vocabulary.Call.TheVariants.{Insert}
-use Rattle.bloom_steps.specs.LiveSteps.{MakesCallInTurn, WasInserted}
-use Rattle.fastbloom_c.specs.Shared.{MakesInserts, MakesLook, TellsEach, TellsInTurn, TellsInserts, TellsLooks}
+use Rattle.bloom_steps.specs.LiveSteps.{MakesCallInTurn, WasInserted, WereInserted}
+use Rattle.fastbloom_c.specs.Shared.{MakesLook, TellsEach, TellsInTurn, TellsInserts, TellsLooks}
 use Rattle.fastbloom_c.specs.Passed.{MakeFilter, vector_of}
 
 -- one word makes a filter, and so does the greatest number
@@ -62,7 +62,7 @@ unfolding content
 tells-past told = both_ways false refl (sym (told.rest 1 (omega arith)))
 
 -- each hash of a list was inserted, the last one too, from the turn to which the first led
-inserts-each : (v : SharedWords) (made : MakesInserts v 1 (5 ∷ 6 ∷ []))
+inserts-each : (v : SharedWords) (made : WereInserted v 1 (5 ∷ 6 ∷ []))
     → (mid : ℕ) × WasInserted v 1 5 made.first mid × WasInserted v 1 6 mid made.last
 inserts-each v made =
     let (mid, one, (last, two, end)) = made.each in

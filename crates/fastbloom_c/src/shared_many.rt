@@ -1,6 +1,7 @@
 //! Calls on many hashes, on words that threads share.
 ghost use Rattle.std.specs.Prelude.{◌≡◌, ◌↔◌, ◌*◌, ◌≤◌, false, IsTrue, length, max};
-ghost use Rattle.fastbloom_c.specs.Shared.{MakesInserts, TellsInserts, TellsLooks};
+ghost use Rattle.bloom_steps.specs.LiveSteps.{WereInserted};
+ghost use Rattle.fastbloom_c.specs.Shared.{TellsInserts, TellsLooks};
 ghost use Rattle.fastbloom_c.specs.Passed.{MakeFilter, vector_of};
 
 use crate::lent::LentWords;
@@ -24,7 +25,7 @@ pub extern "C" fn fastbloom_shared_insert_hashes(
 ) -> bool
     ensures done { IsTrue result ↔ MakeFilter words.len }
     ensures made { IsTrue result
-        → MakesInserts (vector_of words.at words.len) (max 1 num_hashes) hashes.now }
+        → WereInserted (vector_of words.at words.len) (max 1 num_hashes) hashes.now }
 {
     let words = words.shared();
     let accepted = make_filter(words.len());
