@@ -500,16 +500,17 @@ static int at_end(sqlite3_vtab_cursor *base) { return !((cursor *)base)->has_row
 /* About how many items set so many bits: the most that are expected to set no more, or 1. */
 static uint64_t estimate(const filter *f, uint64_t ones) {
     const long double lines = (long double)(f->num_words / WORDS), bits = 8 * LINE;
-    const long double left = 1 - (long double)ones / (bits * lines);
-    /* The part of all bits that stays clear after an item, after two, after four and so on. */
-    long double clear[64], of_line = 1, now = 1;
+    const long double share = (long double)ones / bits / lines;
+    /* The part of all bits that is set after one item, after two, after four and so on. */
+    long double set[64], clear = 1, now = 0;
     uint64_t items = 0;
-    for (uint32_t i = 0; i < f->num_hashes; i++) of_line *= (bits - 1) / bits;
-    clear[0] = 1 - (1 - of_line) / lines;
-    for (int i = 1; i < 64; i++) clear[i] = clear[i - 1] * clear[i - 1];
+    for (uint32_t i = 0; i < f->num_hashes; i++) clear *= (bits - 1) / bits;
+    set[0] = (1 - clear) / lines;
+    for (int i = 1; i < 64; i++) set[i] = set[i - 1] * (2 - set[i - 1]);
     for (int i = 63; i >= 0; i--) {
-        if (now * clear[i] < left) continue;
-        now *= clear[i];
+        const long double more = now + set[i] * (1 - now);
+        if (more > share) continue;
+        now = more;
         items += (uint64_t)1 << i;
     }
     return items == 0 && ones > 0 ? 1 : items;

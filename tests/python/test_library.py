@@ -71,6 +71,20 @@ def test_the_name_and_the_stack_of_the_shared_library():
     assert re.findall(r"^ *GNU_STACK .* (R\S*) +0x\d+$", told, re.M) == ["RW"]
 
 
+@pytest.mark.parametrize(
+    "member, calls",
+    [
+        ("c", "The proved calls"),
+        ("lines", "Those that tell what is to be expected of a blocked filter"),
+    ],
+)
+def test_the_page_names_what_the_library_needs(member, calls):
+    told = run("nm", "-A", "-u", LIBRARY / "libfastbloom_c.a")[1]
+    needed = set(re.findall(rf":fastbloom_{member}\.o: +U (\w+)", told)) - set(SYMBOLS)
+    page = " ".join((TOP / "docs/C.md").read_text().split())
+    assert needed == set(re.findall(r"`(\w+)`", re.search(rf"{calls} need ([^.]*)\.", page)[1]))
+
+
 def test_each_call_that_takes_an_item_is_tried():
     """The classes of C++ and their bases have just the calls that tests/cpp/items.cpp lists."""
     names = ("", "_shared", "_blocked", "_blocked_shared")

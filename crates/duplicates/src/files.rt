@@ -1,7 +1,6 @@
 //! The inputs: files, and standard input.
 
 use duplicates_engine::Inputs;
-use program_parts::first_output;
 use std::fs::File;
 use std::io;
 use std::io::{Read, StdinLock};
@@ -76,9 +75,4 @@ impl<'r, 'n, 's> Inputs for Files<'r, 'n, 's> {
         }
         Ok(Some(Opened::File(File::open(self.rt, name)?)))
     }
-}
-
-/// The first name of an input that is the file that standard output is written to, if one is.
-pub fn name_of_output<'n, 's>(rt: &HostRuntime, names: Option<&'n [&'s str]>) -> Option<&'s str> {
-    first_output(rt, names.unwrap_or(&["-"]))
 }

@@ -14,8 +14,10 @@ mod telling;
 
 use clap::{ArgMatches, Error};
 use command_line::{matched, misuse, request_of};
+use duplicates_engine::Fault;
+use program_parts::open_closed_streams;
 use std::process::ExitCode;
-use telling::{BAD, DONE, tell_no_room, tell_unwritten};
+use telling::{BAD, DONE, tell, tell_fault, tell_no_room, tell_unwritten};
 
 // Prints what clap has to say, and gives the status.
 fn print(rt: &HostRuntime, error: &Error) -> u8 {
@@ -58,16 +60,24 @@ fn words_of(rt: &HostRuntime) -> std::io::Result<Vec<String>> {
     Ok(std::env::args(rt)?.collect(rt.alloc())?)
 }
 
-fn main(rt: HostRuntime) -> ExitCode {
-    match words_of(&rt) {
-        Ok(words) => ExitCode::from(serve(&rt, words.as_slice())),
+// The program; the status.
+fn run_all(rt: &HostRuntime) -> u8 {
+    if let Err(error) = open_closed_streams(rt) {
+        return tell_fault(rt, "/dev/null", true, 0, Fault::Open(error.kind()));
+    }
+    match words_of(rt) {
+        Ok(words) => serve(rt, words.as_slice()),
         Err(error) => {
             if error.kind() == std::io::ErrorKind::InvalidData {
-                let _ = eprintln!(rt; "duplicates: an argument isn't UTF-8");
-                ExitCode::from(BAD)
+                tell(rt, "an argument isn't UTF-8");
+                BAD
             } else {
-                ExitCode::from(tell_no_room(&rt, "out of memory"))
+                tell_no_room(rt, "out of memory")
             }
         }
     }
+}
+
+fn main(rt: HostRuntime) -> ExitCode {
+    ExitCode::from(run_all(&rt))
 }

@@ -1,7 +1,7 @@
 //! A run over the inputs.
 
 use crate::command_line::Request;
-use crate::files::{Files, name_of_output};
+use crate::files::Files;
 use crate::gauge::Gauge;
 use crate::telling::{
     DONE, OVERFULL, Teller, tell_fault, tell_no_room, tell_output, tell_unwritten,
@@ -10,7 +10,7 @@ use bloom_blocked::BlockedBloomFilter;
 use bloom_growing::{GrowingError, GrowingFilter, RotatingFilter};
 use bloom_plain::{BloomFilter, FilterError};
 use duplicates_engine::{Fault, Options, Sieve, Total, Written, keep_new};
-use program_parts::{Output, Writer, close, open_output};
+use program_parts::{Output, Writer, close, first_output, open_output};
 use std::fs::File;
 use std::io;
 use std::io::{BufWriter, IsTerminal, Write};
@@ -181,6 +181,9 @@ fn run_into(
     request: &Request,
     output: Output<Writer<'_, HostRuntime, File>>,
 ) -> Result<u8, &'static str> {
+    if let Some(name) = first_output(rt, &output, request.names.unwrap_or(&["-"])) {
+        return Ok(tell_output(rt, name));
+    }
     let mut output = output;
     let ended = sift_by_filter(rt, request, &mut output.writer);
     match close(rt, output, is_whole(&ended)) {
@@ -194,11 +197,6 @@ fn run_into(
 /// # Errors
 /// Why there is no filter for this many lines at this rate.
 pub fn run(rt: &HostRuntime, request: &Request) -> Result<u8, &'static str> {
-    if request.output.unwrap_or("-") == "-" {
-        if let Some(name) = name_of_output(rt, request.names) {
-            return Ok(tell_output(rt, name));
-        }
-    }
     match open_output(rt, request.output) {
         Ok(output) => run_into(rt, request, output),
         Err(error) => Ok(tell_unwritten(rt, request.output, error.kind())),

@@ -3,6 +3,7 @@
 
 use duplicates_engine::{Fault, Progress, Tally};
 use lines::Reason;
+use program_parts::OneLine;
 use std::fmt;
 use std::fmt::Display;
 use std::io::ErrorKind;
@@ -72,6 +73,11 @@ impl Display for Because {
     }
 }
 
+/// Tells what failed, on one line.
+pub fn tell<D: Display + Drop>(rt: &HostRuntime, what: D) {
+    let _ = eprintln!(rt; "duplicates: {}", OneLine(what));
+}
+
 // How an input is called: its name, or standard input.
 fn called(name: &str) -> &str {
     if name == "-" { "standard input" } else { name }
@@ -82,22 +88,22 @@ const ADVICE: &str = "see --longest and --skip-longer";
 
 // Tells that a line is too long, in which input it is, and how many bytes a line may have.
 fn tell_long(rt: &HostRuntime, place: &str, is_named: bool, number: u64, longest: usize) {
-    let _ = if is_named {
-        eprintln!(rt;
-            "duplicates: {place}: line {number} has more than {longest} bytes: {}",
-            ADVICE
-        )
+    if is_named {
+        tell(
+            rt,
+            format_args!("{place}: line {number} has more than {longest} bytes: {}", ADVICE),
+        );
     } else {
-        eprintln!(rt;
-            "duplicates: line {number} has more than {longest} bytes: {}",
-            ADVICE
-        )
-    };
+        tell(
+            rt,
+            format_args!("line {number} has more than {longest} bytes: {}", ADVICE),
+        );
+    }
 }
 
 /// Tells that an input is the output, and returns the status.
 pub fn tell_output(rt: &HostRuntime, name: &str) -> u8 {
-    let _ = eprintln!(rt; "duplicates: {} is the output, too", called(name));
+    tell(rt, format_args!("{} is the output, too", called(name)));
     BAD
 }
 
@@ -108,7 +114,7 @@ pub fn tell_unwritten(rt: &HostRuntime, name: Option<&str>, kind: ErrorKind) -> 
         "-" => "standard output",
         name => name,
     };
-    let _ = eprintln!(rt; "duplicates: {name} can't be written{}", Because(kind));
+    tell(rt, format_args!("{name} can't be written{}", Because(kind)));
     FAILED
 }
 
@@ -128,11 +134,11 @@ pub fn tell_fault(
             BAD
         }
         Fault::Open(kind) => {
-            let _ = eprintln!(rt; "duplicates: {place} can't be opened{}", Because(kind));
+            tell(rt, format_args!("{place} can't be opened{}", Because(kind)));
             FAILED
         }
         Fault::Input(kind) => {
-            let _ = eprintln!(rt; "duplicates: {place} can't be read{}", Because(kind));
+            tell(rt, format_args!("{place} can't be read{}", Because(kind)));
             FAILED
         }
         Fault::Output(kind) => tell_unwritten(rt, None, kind),
@@ -143,6 +149,6 @@ pub fn tell_fault(
 
 /// Tells that there is no room, and returns the status.
 pub fn tell_no_room(rt: &HostRuntime, what: &str) -> u8 {
-    let _ = eprintln!(rt; "duplicates: {what}");
+    tell(rt, what);
     NO_ROOM
 }

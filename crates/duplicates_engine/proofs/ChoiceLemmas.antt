@@ -1,5 +1,5 @@
 -- The lines that a run writes are a choice of all lines.
-use Rattle.std.proofs.Common.{ℕ, Bool, List, Option, Result, Ok, Err, refl}
+use Rattle.std.proofs.Common.{ℕ, Bool, List, Option, Result, Ok, Err}
 use Rattle.std.specs.Prelude.{IfOk, IfErr}
 use Rattle.std.specs.Io.KnownBytes.{Keeps}
 use Rattle.std.specs.declared.io.ErrorKind.{ErrorKind}
@@ -11,7 +11,7 @@ use Rattle.duplicates_engine.specs.declared.tally.Total.{Total}
 use Rattle.duplicates_engine.specs.Choices.{WritesChoice, WritesChoiceUntil}
 use Rattle.duplicates_engine.specs.Kept.{chosen, EndsEarly, KeepsNew, KeepsUntil}
 use Rattle.duplicates_engine.proofs.FlushLemmas.{all-flushed, until-flushed}
-use Rattle.duplicates_engine.proofs.PlaceLemmas.{is-choice}
+use Rattle.duplicates_engine.proofs.PlaceLemmas.{chosen-nothing, leaves-new, writes-new}
 
 module _ {V : Type 0} (span : V → Option ℕ) (recalls : V → List (List ℕ) → Type 0)
     (sifts : V → List ℕ → Bool → V → Type 0)
@@ -26,9 +26,11 @@ module _ {V : Type 0} (span : V → Option ℕ) (recalls : V → List (List ℕ)
     lines = run.lines;
     chosen = chosen options run.lines run.replies;
     whole = run.whole;
-    is_choice =
-        is-choice (span old) options run.lines run.replies run.sifted.count run.sifted.are_new
-        options.written refl;
+    new =
+        writes-new (span old) options run.lines run.replies run.sifted.count run.sifted.are_new;
+    held_back =
+        leaves-new (span old) options run.lines run.replies run.sifted.count run.sifted.are_new;
+    nothing = chosen-nothing options run.lines run.replies;
     short = run.short;
     text = run.text;
   }
@@ -42,9 +44,11 @@ module _ {V : Type 0} (span : V → Option ℕ) (recalls : V → List (List ℕ)
     lines = run.lines;
     chosen = chosen options run.lines run.replies;
     reached = run.reached;
-    is_choice =
-        is-choice (span old) options run.lines run.replies run.sifted.count run.sifted.are_new
-        options.written refl;
+    new =
+        writes-new (span old) options run.lines run.replies run.sifted.count run.sifted.are_new;
+    held_back =
+        leaves-new (span old) options run.lines run.replies run.sifted.count run.sifted.are_new;
+    nothing = chosen-nothing options run.lines run.replies;
     short = run.short;
     written = run.written;
     text = run.text;

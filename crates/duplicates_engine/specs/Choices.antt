@@ -6,7 +6,6 @@ use Rattle.std.specs.Io.KnownBytes.{Appends}
 use Rattle.lines.specs.Reading.{AreShort}
 use Rattle.duplicates_engine.specs.declared.fault.Fault.{Fault}
 use Rattle.duplicates_engine.specs.declared.options.Options.{Options}
-use Rattle.duplicates_engine.specs.declared.options.Written.{Written}
 use Rattle.duplicates_engine.specs.declared.options.Written.TheVariants.{New, HeldBack, Nothing}
 use Rattle.duplicates_engine.specs.Faults.{IsWrittenAt, IsReadAt}
 use Rattle.duplicates_engine.specs.Inputs.{AreAllRead}
@@ -59,30 +58,28 @@ pub record LeavesOutNew (span : Option ℕ) (longest : ℕ) (lines written : Lis
   pub longer : (place : ℕ) → place < length lines → IsLongerAt longest lines place
       → places place ≡ false
 
--- what the lines that are written are to all lines, by what was asked for
-abbrev pub IsChoice : Option ℕ → Written → ℕ → List (List ℕ) → List (List ℕ) → Type 0
-IsChoice span New longest lines written = WritesNew span longest lines written
-IsChoice span HeldBack longest lines written = LeavesOutNew span longest lines written
-IsChoice span Nothing longest lines written = written ≡ []
-
--- a whole run: of all lines of the inputs such lines were written, and nothing else
+-- a whole run: of all lines of the inputs those that were asked for were written, and nothing else
 pub record WritesChoice (span : Option ℕ) (end : ℕ) (options : Options)
     (come left : Option (List (List ℕ))) (from to : Option (List ℕ)) : Type 0 where
   pub lines : List (List ℕ)
   pub chosen : List (List ℕ)
   pub whole : AreAllRead end come left lines
-  pub is_choice : IsChoice span options.written options.longest lines chosen
+  pub new : options.written ≡ New → WritesNew span options.longest lines chosen
+  pub held_back : options.written ≡ HeldBack → LeavesOutNew span options.longest lines chosen
+  pub nothing : options.written ≡ Nothing → chosen ≡ []
   pub short : AreShort (limit_of options) lines
   pub text : Appends from to (lines_text end chosen)
 
--- a run up to a fault: of the first lines of the inputs such lines were written, at a fault of the
--- writer as far as it took them, and nothing else
+-- a run up to a fault: of the first lines of the inputs those that were asked for were written, at
+-- a fault of the writer as far as it took them, and nothing else
 pub record WritesChoiceUntil (span : Option ℕ) (end : ℕ) (options : Options)
     (come : Option (List (List ℕ))) (from to : Option (List ℕ)) (fault : Fault) : Type 0 where
   pub lines : List (List ℕ)
   pub chosen : List (List ℕ)
   pub reached : IsReadAt end (limit_of options) fault come lines
-  pub is_choice : IsChoice span options.written options.longest lines chosen
+  pub new : options.written ≡ New → WritesNew span options.longest lines chosen
+  pub held_back : options.written ≡ HeldBack → LeavesOutNew span options.longest lines chosen
+  pub nothing : options.written ≡ Nothing → chosen ≡ []
   pub short : AreShort (limit_of options) lines
   pub written : List ℕ
   pub text : Appends from to written

@@ -8,10 +8,12 @@ mod ItemFacts
 mod ItemLemmas
 mod LineAloneLemmas
 mod NoWordLemmas
+mod PassedFacts
 mod PieceFacts
 mod PlanFacts
 mod RateFacts
 mod SameBitsLemmas
 mod SharedFacts
 mod SharedLemmas
+mod SharedRateFacts
 mod Steps

@@ -1,15 +1,14 @@
 //! Where a program writes: standard output, or a file.
 
+use crate::target::{STANDARD_OUTPUT, Target, target_of};
 use either::{Either, Left, Right};
 use std::alloc::{AllocError, Global};
 use std::fs::{Metadata, OpenFile, OpenOptions, Permissions};
 use std::io::{ErrorKind, Printer};
-use std::os::unix::fs::{MetadataExt, OpenOptionsExt, PermissionsExt};
+use std::os::fd::AsFd;
+use std::os::unix::fs::{MetadataExt, OpenOptionsExt, PermissionsExt, fchown};
 use std::rt::Files;
 use std::{fs, io};
-
-// How many files of such a name a folder may have.
-const MOST_PARTS: u32 = 1000;
 
 /// Where a program writes. A regular file is written beside the one whose place it takes, so that
 /// this is whole until it has it, and may be an input.
@@ -58,7 +57,7 @@ fn open_beside<'r, R: Files + AllocGlobal>(
 ) -> io::Result<Output<Writer<'r, R, R::File>>> {
     // Only its owner has it until it has the mode of the other.
     let mode = if old.is_some() { 0o600 } else { 0o666 };
-    'parts: for number in 0..MOST_PARTS {
+    'parts: for number in 0..u32::MAX {
         let part = part_beside(rt.alloc(), name.as_str(), number)?;
         let mut options = OpenOptions::new();
         options.write(true).create_new(true).mode(mode);
@@ -79,40 +78,20 @@ fn open_beside<'r, R: Files + AllocGlobal>(
     Err(ErrorKind::AlreadyExists.into())
 }
 
-// Opens what is no regular file, as a device or a pipe.
-fn open_in_place<'r, R: Files>(
-    rt: &'r R,
-    name: &str,
-) -> io::Result<Output<Writer<'r, R, R::File>>> {
-    let file = OpenOptions::new().write(true).open(rt, name)?;
+// Opens a stream: what is written follows what it has.
+fn open_stream<'r, R: Files>(rt: &'r R, name: &str) -> io::Result<Output<Writer<'r, R, R::File>>> {
+    let file = OpenOptions::new().append(true).open(rt, name)?;
     Ok(Output {
         writer: Right(file),
         place: None,
     })
 }
 
-// Opens a file.
-fn open_file<'r, R: Files + AllocGlobal>(
-    rt: &'r R,
-    name: &str,
-) -> io::Result<Output<Writer<'r, R, R::File>>> {
-    match fs::metadata(rt, name) {
-        Ok(found) => {
-            if found.is_file() {
-                // A link stays, and leads to the new file.
-                let path = fs::canonicalize(rt, name)?;
-                open_beside(rt, path.into_string(), Some(found))
-            } else {
-                open_in_place(rt, name)
-            }
-        }
-        Err(error) => {
-            if error.kind() == ErrorKind::NotFound {
-                open_beside(rt, name.to_string(rt.alloc())?, None)
-            } else {
-                Err(error)
-            }
-        }
+// Standard output, which is open.
+fn standard_output<'r, R: Files + Print>(rt: &'r R) -> Output<Writer<'r, R, R::File>> {
+    Output {
+        writer: Left(io::writer(rt)),
+        place: None,
     }
 }
 
@@ -125,18 +104,40 @@ pub fn open_output<'r, R: Files + Print + AllocGlobal>(
     name: Option<&str>,
 ) -> io::Result<Output<Writer<'r, R, R::File>>> {
     let name = name.unwrap_or("-");
-    if name != "-" {
-        return open_file(rt, name);
+    if name == "-" {
+        return Ok(standard_output(rt));
     }
-    Ok(Output {
-        writer: Left(io::writer(rt)),
-        place: None,
-    })
+    match target_of(rt, name)? {
+        Target::Standard => Ok(standard_output(rt)),
+        Target::Stream(name) => open_stream(rt, name.as_str()),
+        Target::Regular(name, old) => open_beside(rt, name, old),
+    }
 }
 
-// Gives a file the mode of the one whose place it takes, and waits until the disk has it.
-fn settle<F: OpenFile>(file: &F, old: Option<&Metadata>) -> io::Result<()> {
+/// What is known of the file that an output is written to where it lies, if it is.
+pub fn metadata_in_place<R: Files>(
+    rt: &R,
+    output: &Output<Writer<'_, R, R::File>>,
+) -> Option<Metadata> {
+    match &output.writer {
+        Left(_) => fs::metadata(rt, STANDARD_OUTPUT).ok(),
+        Right(file) if output.place.is_none() => file.metadata().ok(),
+        Right(_) => None,
+    }
+}
+
+// Gives a file the owner and the group of another where it can, or else the group.
+fn keep_owner<F: AsFd>(file: &F, old: &Metadata) {
+    if fchown(file, Some(old.uid()), Some(old.gid())).is_err() {
+        let _ = fchown(file, None, Some(old.gid()));
+    }
+}
+
+// Gives a file the owner and the mode of the one whose place it takes, and waits until the disk has
+// it.
+fn settle<F: OpenFile + AsFd>(file: &F, old: Option<&Metadata>) -> io::Result<()> {
     if let Some(old) = old {
+        keep_owner(file, old);
         let mode = kept_mode(old, &file.metadata()?);
         file.set_permissions(Permissions::from_mode(mode))?;
     }
@@ -144,7 +145,10 @@ fn settle<F: OpenFile>(file: &F, old: Option<&Metadata>) -> io::Result<()> {
 }
 
 // Puts a file in its place, if it is whole, and else removes it.
-fn put_in_place<R: Files>(rt: &R, file: R::File, place: &Place, is_whole: bool) -> io::Result<()> {
+fn put_in_place<R: Files>(rt: &R, file: R::File, place: &Place, is_whole: bool) -> io::Result<()>
+where
+    R::File: AsFd,
+{
     let mut done = Ok(());
     if is_whole {
         done = settle(&file, place.old.as_ref());
@@ -168,7 +172,10 @@ pub fn close<'r, R: Files>(
     rt: &R,
     output: Output<Writer<'r, R, R::File>>,
     is_whole: bool,
-) -> io::Result<()> {
+) -> io::Result<()>
+where
+    R::File: AsFd,
+{
     let Output { writer, place } = output;
     match writer {
         Left(printer) => {

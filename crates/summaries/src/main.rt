@@ -16,12 +16,14 @@ mod telling;
 
 use clap::{ArgMatches, Error};
 use command_line::arguments;
+use program_parts::open_closed_streams;
 use std::io::IsTerminal;
+use std::os::fd::AsFd;
 use std::process::ExitCode;
 use std::rt::Files;
 use std::thread::Threads;
-use summaries_engine::{Stop, written};
-use telling::{BAD, DONE, tell, tell_output, tell_stop};
+use summaries_engine::{Stop, unread, written};
+use telling::{BAD, DONE, tell, tell_stop};
 
 // The status of what came of a task, and what is reported about it.
 fn status_of<R: Eprint>(rt: &R, done: Result<(), Stop>) -> u8 {
@@ -40,26 +42,17 @@ fn print<R: Print + Eprint>(rt: &R, error: &Error) -> u8 {
     status_of(rt, written(printed, "standard output can't be written"))
 }
 
-// What words that were read ask for is done; the status.
-fn run_matched<R: Files + Input + Print + Eprint + AllocGlobal + Threads + Sync>(
-    rt: &R,
-    matches: &ArgMatches,
-    is_on: bool,
-) -> u8 {
-    match tasks::name_of_output(rt, matches) {
-        Some(name) => tell_output(rt, name),
-        None => status_of(rt, tasks::run(rt, matches, is_on)),
-    }
-}
-
 // What the words ask for is done; the status. A terminal is told how far the run is.
 fn run<R: Files + Input + Print + Eprint + AllocGlobal + Threads + Sync>(
     rt: &R,
     words: &[String],
     is_on: bool,
-) -> u8 {
+) -> u8
+where
+    R::File: AsFd,
+{
     match arguments(rt.alloc(), words) {
-        Ok(matches) => run_matched(rt, &matches, is_on),
+        Ok(matches) => status_of(rt, tasks::run(rt, &matches, is_on)),
         Err(error) => print(rt, &error),
     }
 }
@@ -70,6 +63,9 @@ fn words_of(rt: &HostRuntime) -> std::io::Result<Vec<String>> {
 }
 
 fn main(rt: HostRuntime) -> ExitCode {
+    if let Err(error) = open_closed_streams(&rt) {
+        return ExitCode::from(tell_stop(&rt, unread("/dev/null", error)));
+    }
     match words_of(&rt) {
         Ok(words) => {
             let is_on = rt.stderr().is_terminal();

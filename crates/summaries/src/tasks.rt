@@ -1,22 +1,22 @@
 //! The tasks that the program's words ask for.
 mod asks;
 mod builds;
+mod outputs;
 
-use crate::command_line::{FILTER, JSON, MOST_HASHES, OTHER, OUTPUT, ZERO};
+use crate::command_line::{FILTER, JSON, MOST_HASHES, OTHER, ZERO};
 use crate::form::{Disk, load_named};
 use crate::key_files::{KeyFiles, STANDARD, called, called_inputs};
-use asks::{run_ask, word_of_output};
-use builds::run_build;
 use clap::ArgMatches;
-use program_parts::{close, open_output};
+use outputs::run_with_output;
 use std::alloc::{AllocError, Global};
 use std::cell::Cell;
 use std::io::Write;
+use std::os::fd::AsFd;
 use std::rt::Files;
 use std::thread::Threads;
 use summaries_engine::{
     AnyFilter, Form, Stop, blocked_facts_of, blocked_script_of, compare_named, facts_of, no_json,
-    put, put_file, script_of, twice, unite_named, unsaid, unwritten, written,
+    put, put_file, script_of, twice, unite_named, unsaid, written,
 };
 
 // The inputs of keys that the words tell.
@@ -167,59 +167,15 @@ fn run_compare<R: Files + Input + Print + AllocGlobal>(
     compare_files(rt, called(one), called(other))
 }
 
-/// The name of the first input that is the output, too, if one is. Only `ask` writes while it
-/// reads.
-pub fn name_of_output<'a, R: Files>(rt: &R, matches: &ArgMatches<'a>) -> Option<&'a str> {
-    let word = word_of_output(rt, matches.subcommand_matches("ask")?)?;
-    Some(called(word))
-}
-
-// Carries a task out that may write much, where its output is open.
-fn write_task<R: Files + Input + Eprint + AllocGlobal + Threads + Sync, W: Write + Drop>(
-    rt: &R,
-    name: &str,
-    matches: &ArgMatches,
-    is_on: bool,
-    output: &mut W,
-) -> Result<(), Stop> {
-    match name {
-        "build" => run_build(rt, matches, is_on, output),
-        "unite" => run_unite(rt, matches, output),
-        "ask" => run_ask(rt, matches, is_on, output),
-        _ => Err(unsaid("command")),
-    }
-}
-
-// Opens the output that the words ask for, and carries a task out. An output that is a file takes
-// its place if that ended well.
-fn run_with_output<R: Files + Input + Print + Eprint + AllocGlobal + Threads + Sync>(
-    rt: &R,
-    name: &str,
-    matches: &ArgMatches,
-    is_on: bool,
-) -> Result<(), Stop> {
-    let file = matches.get_str(OUTPUT);
-    match open_output(rt, file) {
-        Ok(output) => {
-            let mut output = output;
-            let ended = write_task(rt, name, matches, is_on, &mut output.writer);
-            let closed = close(rt, output, ended.is_ok());
-            ended?;
-            match closed {
-                Ok(()) => Ok(()),
-                Err(error) => Err(unwritten(file.unwrap_or("-"), error)),
-            }
-        }
-        Err(error) => Err(unwritten(file.unwrap_or("-"), error)),
-    }
-}
-
 /// Does what the words ask for. A terminal is told how far the run is.
 pub fn run<R: Files + Input + Print + Eprint + AllocGlobal + Threads + Sync>(
     rt: &R,
     matches: &ArgMatches,
     is_on: bool,
-) -> Result<(), Stop> {
+) -> Result<(), Stop>
+where
+    R::File: AsFd,
+{
     let Some((name, matches)) = matches.subcommand() else {
         return Err(unsaid("command"));
     };

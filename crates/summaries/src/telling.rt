@@ -1,6 +1,7 @@
 //! What is reported on standard error, and the statuses. Where standard error can't be written,
 //! nothing is reported, and the status stays.
 
+use program_parts::OneLine;
 use std::fmt::Display;
 use summaries_engine::Stop;
 
@@ -19,13 +20,7 @@ pub const FAILED: u8 = 4;
 
 /// Tells what failed, on one line.
 pub fn tell<R: Eprint, D: Display + Drop>(rt: &R, what: D) {
-    let _ = eprintln!(rt; "summaries: {what}");
-}
-
-/// Tells that the input of this name is the output; the status.
-pub fn tell_output<R: Eprint>(rt: &R, name: &str) -> u8 {
-    let _ = eprintln!(rt; "summaries: {name}: it is the output, too");
-    BAD
+    let _ = eprintln!(rt; "summaries: {}", OneLine(what));
 }
 
 /// Tells why a run stopped; the status.

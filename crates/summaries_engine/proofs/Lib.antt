@@ -21,6 +21,7 @@ mod NamedLemmas
 mod NamingLemmas
 mod RefusalFacts
 mod RefusalLemmas
+mod ScriptFacts
 mod SealLemmas
 mod ShardFacts
 mod ShardLemmas

@@ -47,6 +47,6 @@ pub use loading::load;
 pub use script::{blocked_script_of, script_of};
 pub use shards::{Shelf, unite_named};
 pub use sizes::{classic_for, classic_with_bits};
-pub use stop::{Stop, no_json, twice, unsaid, unshaped, unwritten, written};
+pub use stop::{Stop, is_output, no_json, twice, unsaid, unshaped, unwritten, written};
 pub use summary::{build, build_alone};
 pub use unions::{Difference, Refusal, add, unite};

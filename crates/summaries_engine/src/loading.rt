@@ -140,7 +140,19 @@ fn filter_of(alloc: Global, name: &str, text: &str) -> Result<AnyFilter, Stop>
     }
 }
 
-// Reads a filter as JSON text, of which the first bytes were read.
+// Whether a text that begins so may be a filter: its first byte that isn't white space begins an
+// object or an array.
+fn may_be_filter(start: &[u8]) -> bool {
+    'bytes: for byte in start {
+        if !byte.is_ascii_whitespace() {
+            return *byte == b'{' || *byte == b'[';
+        }
+    }
+    true
+}
+
+// Reads a filter as JSON text, of which the first bytes were read. No more is read of what can't be
+// one.
 fn load_text<R: Read>(
     alloc: Global,
     name: &str,
@@ -150,7 +162,8 @@ fn load_text<R: Read>(
     ensures keyed { IfOk result IsKeyed }
     ensures failed { IfErr result (IsUnread name.now) }
 {
-    match io::read_to_string(alloc, start.chain(input)) {
+    let most = if may_be_filter(start) { u64::MAX } else { 0 };
+    match io::read_to_string(alloc, start.chain(input.take(most))) {
         Ok(text) => filter_of(alloc, name, text.as_str()),
         Err(error) => Err(unread_text(name, error)),
     }

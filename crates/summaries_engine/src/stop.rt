@@ -50,6 +50,13 @@ pub fn twice(name: &str) -> Stop
     Stop::Bad(anyhow!("{name}: it can be read only once"))
 }
 
+/// That an input is the output of a program, too.
+pub fn is_output(name: &str) -> Stop
+    ensures { IsBad (Says (name.now ++ codes ": it is the output, too")) result }
+{
+    Stop::Bad(anyhow!("{name}: it is the output, too"))
+}
+
 /// That a blocked filter has no JSON text.
 pub fn no_json() -> Stop
     ensures { IsBad (Says (codes "a blocked filter isn't written as JSON")) result }

@@ -23,7 +23,7 @@ const JSON_ROW: Row = (
 
 const OUTPUT_ROW: Row = (
     OUTPUT,
-    Kind::LetterOption('o', "FILE", ValueParser::String),
+    Kind::LetterOption('o', "FILE", ValueParser::NonEmptyString),
     "Writes this file, which may be an input, in place of standard output",
     &[],
     &[],

@@ -2,10 +2,10 @@
 ghost use Rattle.summaries_engine.specs.Answers.{IsKeyed};
 
 use super::{disk_of, keys_of};
-use crate::command_line::{ABSENT, FILE, FILTER, OUTPUT, ZERO};
+use crate::command_line::{ABSENT, FILE, FILTER, ZERO};
 use crate::key_files::{STANDARD, called, called_inputs};
 use clap::ArgMatches;
-use program_parts::first_output;
+use program_parts::{Output, Writer, first_output};
 use std::cell::Cell;
 use std::io::{BufWriter, Write};
 use std::rt::Files;
@@ -79,15 +79,16 @@ fn ask_of<R: Files + Input + Eprint + AllocGlobal, W: Write + Drop>(
     }
 }
 
-/// The first word for an input that is the file that standard output is written to, if one is. What
-/// is told there would be read as keys again, without end.
-pub(super) fn word_of_output<'a, R: Files>(rt: &R, matches: &ArgMatches<'a>) -> Option<&'a str> {
-    if matches.get_str(OUTPUT).unwrap_or("-") != "-" {
-        return None;
-    }
-    match first_output(rt, &[matches.get_str(FILTER)?]) {
+/// The first word for an input that is the file that the output is written to where it lies, if one
+/// is. What is written there would be read as keys again, without end.
+pub(super) fn word_of_output<'a, R: Files>(
+    rt: &R,
+    matches: &ArgMatches<'a>,
+    output: &Output<Writer<'_, R, R::File>>,
+) -> Option<&'a str> {
+    match first_output(rt, output, &[matches.get_str(FILTER)?]) {
         Some(word) => Some(word),
-        None => first_output(rt, matches.get_strs(FILE).unwrap_or(&["-"])),
+        None => first_output(rt, output, matches.get_strs(FILE).unwrap_or(&["-"])),
     }
 }
 
