@@ -20,7 +20,8 @@ pub mod Grows
 pub mod Happens
 pub mod InsertSteps
 pub mod Lawful
-pub mod Masks
+pub mod LawfulWithin
+pub mod KindCounts
 pub mod KindEnds
 pub mod KindSteps
 pub mod KindTakes

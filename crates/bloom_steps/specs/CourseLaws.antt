@@ -8,10 +8,10 @@ use Rattle.bloom_steps.specs.declared.steps.vocabulary.Step.TheVariants.{Take}
 use Rattle.bloom_steps.specs.declared.steps.vocabulary.Call.{Call}
 use Rattle.bloom_steps.specs.declared.steps.vocabulary.Call.TheVariants.{Insert}
 use Rattle.bloom_steps.specs.declared.steps.vocabulary.End.{End}
-use Rattle.bloom_steps.specs.declared.steps.vocabulary.Record.TheVariants.{Did}
+use Rattle.bloom_steps.specs.declared.steps.vocabulary.Record.TheVariants.{Began, Did}
 use Rattle.bloom_steps.specs.Courses.{Course}
-use Rattle.bloom_steps.specs.Interleavings.{ContainsTell, CountsGains, EndsWithAll, FindsInserted, InsertsTell, IsFoundInOther, TakesLoseNothing, adds_or_takes}
-use Rattle.bloom_steps.specs.Moments.{IsFinished, IsStepAt, bits_of, moment}
+use Rattle.bloom_steps.specs.Interleavings.{ContainsTell, CountsGains, FindsInserted, GainsOnce, InsertsTell, IsFoundInOther, LosesNothing, TakesLoseNothing, adds_or_takes}
+use Rattle.bloom_steps.specs.Moments.{EveryCall, EveryCallEnded, IsFinished, IsStepAt, bits_of, moment}
 use Rattle.bloom_steps.specs.Plans.{goes_by_hash, plan_of, turns_none_off}
 use Rattle.bloom_steps.specs.Sequences.{ActsAsCommands}
 use Rattle.bloom_steps.specs.Steps.{after_records}
@@ -97,8 +97,25 @@ pub record CourseTells
   pub contains : ContainsTell Positions is_in run
   pub grows : EndsWithInserts Positions run
   pub unites : EndsWithUnions Positions run
+  pub gained : EachStepOf (λ call. goes_by_hash (plan_of call)) run → GainsOnce run
   pub kept : LosesNoPosition run
+  pub balanced : EachStepOf adds_or_takes run → LosesNothing run
   pub taken : TakesWhatIsThere run
+
+-- some insert of the run has the position
+pub record IsInserted (k : ℕ) (run : Course) (p : ℕ) : Type 0 where
+  pub m : ℕ
+  pub party : ℕ
+  pub hash : ℕ
+  pub begins : slice_get run.records m ≡ Some (Began party (Insert hash))
+  pub position : IsPosition (bits_of run) k hash p
+
+-- growing runs: where no call clears anything, the end does not depend on the order
+abbrev pub EndsWithAll : ℕ → Course → Type 0
+EndsWithAll k run =
+    EveryCall turns_none_off run.records → EveryCallEnded run.records
+    → (p : ℕ) → (content run.words p ≡ true)
+    ↔ ((content run.start p ≡ true) ⊎ (IsInserted k run p ⊎ IsFoundInOther run p))
 
 -- what a lawful course of a Bloom filter with k hashes gives, also where calls have not ended
 pub record LawfulTells (k : ℕ) (run : Course) : Type 0 where

@@ -1,9 +1,8 @@
 -- What every interleaving of word steps gives, that is every order of the steps of calls that
 -- overlap. It is said of finished courses, of filters of any kind: `Positions` are those of a hash,
 -- and `is_in` is the test of a hash in a set. The theorems are this project's own.
-use Rattle.std.specs.Prelude.{ℕ, zero, suc, ◌+◌, ◌/◌, ◌≤◌, ◌<◌, ◌≡◌, ◌↔◌, ◌⊎◌, ◌&&◌, ◌==◌, Bool, true, false, not, Some, slice_get, bit_and, count_by, sum_by, take, length, if◌then◌else◌}
+use Rattle.std.specs.Prelude.{ℕ, zero, suc, ◌+◌, ◌/◌, ◌≤◌, ◌<◌, ◌≡◌, ◌↔◌, ◌&&◌, Bool, true, false, not, Some, slice_get, sum_by, take, length, if◌then◌else◌}
 use Rattle.bloom_parts.specs.Content.{bit_is_on, content}
-use Rattle.bloom_parts.specs.Places.{IsPosition}
 use Rattle.bloom_steps.specs.declared.steps.vocabulary.Step.TheVariants.{Load, Or, And, Zero, Other}
 use Rattle.bloom_steps.specs.declared.steps.vocabulary.Step.TheVariants as step
 use Rattle.bloom_steps.specs.declared.steps.vocabulary.Call.{Call}
@@ -12,17 +11,9 @@ use Rattle.bloom_steps.specs.declared.steps.vocabulary.End.{End}
 use Rattle.bloom_steps.specs.declared.steps.vocabulary.End.TheVariants.{Answer}
 use Rattle.bloom_steps.specs.declared.steps.vocabulary.Record.{Record}
 use Rattle.bloom_steps.specs.declared.steps.vocabulary.Record.TheVariants.{Began, Did}
-use Rattle.bloom_steps.specs.Plans.{goes_by_hash, turns_none_off}
+use Rattle.bloom_steps.specs.Plans.{goes_by_hash}
 use Rattle.bloom_steps.specs.Courses.{Course}
-use Rattle.bloom_steps.specs.Moments.{bits_of, moment, IsStepAt, IsFinished, IsInSpan, turns_on, IsUndisturbed, NoneTurnedOff, EveryCall, EveryCallEnded}
-
--- some insert of the run has the position
-pub record IsInserted (k : ℕ) (run : Course) (p : ℕ) : Type 0 where
-  pub m : ℕ
-  pub party : ℕ
-  pub hash : ℕ
-  pub begins : slice_get run.records m ≡ Some (Began party (Insert hash))
-  pub position : IsPosition (bits_of run) k hash p
+use Rattle.bloom_steps.specs.Moments.{bits_of, moment, IsStepAt, IsFinished, IsInSpan, turns_on, IsUndisturbed, NoneTurnedOff, EveryCall}
 
 -- some step that read the other filter found the position set
 pub record IsFoundInOther (run : Course) (p : ℕ) : Type 0 where
@@ -32,13 +23,6 @@ pub record IsFoundInOther (run : Course) (p : ℕ) : Type 0 where
   pub ended : End
   pub reads : slice_get run.records m ≡ Some (Did party (Other (p / 64)) found ended)
   pub on : bit_is_on found p ≡ true
-
--- growing runs: where no call clears anything, the end does not depend on the order
-abbrev pub EndsWithAll : ℕ → Course → Type 0
-EndsWithAll k run =
-    EveryCall turns_none_off run.records → EveryCallEnded run.records
-    → (p : ℕ) → (content run.words p ≡ true)
-    ↔ ((content run.start p ≡ true) ⊎ (IsInserted k run p ⊎ IsFoundInOther run p))
 
 -- a step of a party, after one record and up to another, set a position
 pub record TurnsOneOn (run : Course) (party began last : ℕ) : Type 0 where
@@ -86,22 +70,28 @@ abbrev pub count_below : ℕ → (ℕ → Bool) → ℕ
 count_below zero test = 0
 count_below (suc n) test = if test n then count_below n test + 1 else count_below n test
 
--- whether a record is a step that sets bits and found none of them set
-abbrev pub found_off : Record → Bool
-found_off (Began party call) = false
-found_off (Did party (Load i) found ended) = false
-found_off (Did party (Or i mask) found ended) = bit_and found mask == 0
-found_off (Did party (And i mask) found ended) = false
-found_off (Did party (Zero i) found ended) = false
-found_off (Did party (Other i) found ended) = false
-found_off (Did party (step.Take i) found ended) = false
+-- how many bits of a mask are clear in a word
+unfoldable pub bits_new : ℕ → ℕ → ℕ
+bits_new mask word = count_below 64 (λ p. bit_is_on mask p && not (bit_is_on word p))
 
--- each position is set once: where each call goes by a hash, as many steps found their bit clear as
--- positions were gained
-abbrev pub CountsGains : Course → Type 0
-CountsGains run =
-    EveryCall goes_by_hash run.records → count_by found_off run.records ≡ count_below (bits_of run)
+-- how many bits a step set: those of its mask that it found clear
+abbrev pub bits_gained : Record → ℕ
+bits_gained (Began party call) = 0
+bits_gained (Did party (Load i) found ended) = 0
+bits_gained (Did party (Or i mask) found ended) = bits_new mask found
+bits_gained (Did party (And i mask) found ended) = 0
+bits_gained (Did party (Zero i) found ended) = 0
+bits_gained (Did party (Other i) found ended) = 0
+bits_gained (Did party (step.Take i) found ended) = 0
+
+-- each position is set once: the steps set as many bits as positions were gained
+abbrev pub GainsOnce : Course → Type 0
+GainsOnce run = sum_by bits_gained run.records ≡ count_below (bits_of run)
     (λ p. content run.words p && not (content run.start p))
+
+-- each position is set once where each call goes by a hash
+abbrev pub CountsGains : Course → Type 0
+CountsGains run = EveryCall goes_by_hash run.records → GainsOnce run
 
 -- how many bits of a word are set
 unfoldable pub bits_on : ℕ → ℕ
@@ -130,13 +120,13 @@ adds_or_takes Take = true
 -- found and those that are set at that moment
 abbrev pub IsBalanced : Course → ℕ → Type 0
 IsBalanced run m =
-    count_below (bits_of run) (content run.start) + count_by found_off (take m run.records)
+    count_below (bits_of run) (content run.start) + sum_by bits_gained (take m run.records)
     ≡ sum_by bits_taken (take m run.records) + count_below (bits_of run) (moment run m)
 
 -- taking loses nothing, at any moment and in the end
 pub record LosesNothing (run : Course) : Type 0 where
   pub always : (m : ℕ) → m ≤ length run.records → IsBalanced run m
-  pub whole : count_below (bits_of run) (content run.start) + count_by found_off run.records
+  pub whole : count_below (bits_of run) (content run.start) + sum_by bits_gained run.records
       ≡ sum_by bits_taken run.records + count_below (bits_of run) (content run.words)
 
 -- taking loses nothing where each call is an insert, a look-up or a take

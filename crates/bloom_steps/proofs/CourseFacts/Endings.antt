@@ -8,7 +8,8 @@ use Rattle.bloom_steps.specs.declared.steps.vocabulary.Step.TheVariants.{Other}
 use Rattle.bloom_steps.specs.declared.steps.vocabulary.Call.TheVariants.{Insert}
 use Rattle.bloom_steps.specs.declared.steps.vocabulary.End.TheVariants.{Running}
 use Rattle.bloom_steps.specs.declared.steps.vocabulary.Record.TheVariants.{Began, Did}
-use Rattle.bloom_steps.specs.Interleavings.{EndsWithAll, IsFoundInOther, IsInserted}
+use Rattle.bloom_steps.specs.CourseLaws.{EndsWithAll, IsInserted}
+use Rattle.bloom_steps.specs.Interleavings.{IsFoundInOther}
 use Rattle.bloom_steps.specs.Moments.{EveryCallEnded}
 use Rattle.bloom_steps.specs.Courses.{Course, records_of}
 use Rattle.bloom_steps.proofs.StepFacts.Members.{each-member}

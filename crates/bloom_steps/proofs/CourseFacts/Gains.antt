@@ -1,5 +1,6 @@
 -- How many positions the steps of the worked courses gain, and how many found their bit clear.
-use Rattle.std.proofs.Common.{◌≡◌, ◌≢◌, ◌%◌, ◌==◌, ◌∷◌, [], true, false, not, ◌&&◌, count_by, refl, arith, sym}
+use Rattle.std.proofs.Common.{◌≡◌, ◌≢◌, ◌%◌, ◌==◌, ◌∷◌, [], not, ◌&&◌, refl, arith, sym}
+use Rattle.std.specs.Prelude.{sum_by}
 use Rattle.bloom_parts.specs.Content.{content}
 use Rattle.bloom_steps.specs.declared.steps.vocabulary.Step.TheVariants.{Load, Or, And, Zero, Other}
 use Rattle.bloom_steps.specs.declared.steps.vocabulary.Step.TheVariants as step
@@ -7,7 +8,7 @@ use Rattle.bloom_steps.specs.declared.steps.vocabulary.Call.{Call}
 use Rattle.bloom_steps.specs.declared.steps.vocabulary.Call.TheVariants.{Insert, Clear, Union, Intersect, Take}
 use Rattle.bloom_steps.specs.declared.steps.vocabulary.End.TheVariants.{Running}
 use Rattle.bloom_steps.specs.declared.steps.vocabulary.Record.TheVariants.{Began, Did}
-use Rattle.bloom_steps.specs.Interleavings.{CountsGains, count_below, found_off}
+use Rattle.bloom_steps.specs.Interleavings.{CountsGains, bits_gained, bits_new, count_below}
 use Rattle.bloom_steps.proofs.CourseFacts.Premises.{NoCall, by_hash, growing}
 use Rattle.bloom_steps.specs.Moments.{EveryCall}
 use Rattle.bloom_steps.specs.Plans.{goes_by_hash, turns_none_off}
@@ -25,41 +26,24 @@ even-below = refl
 even-below_one : count_below 4 (λ n. n % 2 == 0) ≡ 2
 even-below_one = refl
 
--- an or whose mask was clear found its bit clear
-or-off : found_off (Did 0 (Or 0 2) 5 Running) ≡ true
-or-off = refl
+-- of a mask of three bits one is clear in the word 5; the highest bit counts too
+new-bits : (bits_new 7 5 ≡ 1) × (bits_new 5 7 ≡ 0) × (bits_new 9223372036854775808 5 ≡ 1)
+unfolding bits_new
+new-bits = (refl, refl, refl)
 
--- an or whose mask was set didn't find its bit clear
-or-on : found_off (Did 0 (Or 0 1) 5 Running) ≡ false
-or-on = refl
+-- a step that sets bits alone tells how many of them it found clear
+gained-bits : (bits_gained (Did 0 (Or 0 7) 5 Running) ≡ 1)
+    × (bits_gained (Did 0 (Or 0 1) 5 Running) ≡ 0) × (bits_gained (Began 0 Clear) ≡ 0)
+    × (bits_gained (Did 0 (Load 0) 0 Running) ≡ 0) × (bits_gained (Did 0 (And 0 2) 5 Running) ≡ 0)
+    × (bits_gained (Did 0 (Zero 0) 0 Running) ≡ 0) × (bits_gained (Did 0 (Other 0) 0 Running) ≡ 0)
+    × (bits_gained (Did 0 (step.Take 0) 0 Running) ≡ 0)
+unfolding bits_new
+gained-bits = (refl, refl, refl, refl, refl, refl, refl, refl)
 
--- a load doesn't count as a step that found its bit clear
-load-off : found_off (Did 0 (Load 0) 0 Running) ≡ false
-load-off = refl
-
--- an and doesn't count as a step that found its bit clear
-and-off : found_off (Did 0 (And 0 2) 5 Running) ≡ false
-and-off = refl
-
--- a zero doesn't count as a step that found its bit clear
-zero-off : found_off (Did 0 (Zero 0) 0 Running) ≡ false
-zero-off = refl
-
--- a read of the other filter doesn't count as a step that found its bit clear
-other-off : found_off (Did 0 (Other 0) 0 Running) ≡ false
-other-off = refl
-
--- a take doesn't count as a step that found its bit clear
-take-off : found_off (Did 0 (step.Take 0) 0 Running) ≡ false
-take-off = refl
-
--- a beginning doesn't count as a step that found its bit clear
-began-off : found_off (Began 0 Clear) ≡ false
-began-off = refl
-
--- two steps of the twins found their bit clear
-twins-off : count_by found_off twins.records ≡ 2
-twins-off = refl
+-- the steps of the twins set two bits
+twins-set : sum_by bits_gained twins.records ≡ 2
+unfolding bits_new
+twins-set = refl
 
 -- the twins gained two positions
 twins-gained : count_below 64 (λ p. content twins.words p && not (content twins.start p)) ≡ 2
@@ -111,7 +95,7 @@ few-gained = refl
 -- the theorem on gains fails of the twins with one position in the end
 ungained : CountsGains one_gained → ⊥
 ungained counts =
-    let two = counts twins-by_hash in omega (arith, sym twins-off, two, few-gained)
+    let two = counts twins-by_hash in omega (arith, sym twins-set, two, few-gained)
 
 -- the twins with three positions in the end
 abbrev three_gained : Course
@@ -126,4 +110,4 @@ many-gained = refl
 -- the theorem on gains fails of the twins with three positions in the end
 over-gained : CountsGains three_gained → ⊥
 over-gained counts =
-    let two = counts twins-by_hash in omega (arith, sym twins-off, two, many-gained)
+    let two = counts twins-by_hash in omega (arith, sym twins-set, two, many-gained)

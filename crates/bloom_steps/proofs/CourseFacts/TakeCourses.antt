@@ -1,5 +1,5 @@
 -- Worked courses of takes: what was set at the start or by a step is what was taken and is left.
-use Rattle.std.proofs.Common.{◌≡◌, ◌∷◌, [], ℕ, refl, arith, inl, count_by}
+use Rattle.std.proofs.Common.{◌≡◌, ◌∷◌, [], ℕ, refl, arith, inl}
 use Rattle.std.specs.Prelude.{sum_by}
 use Rattle.bloom_parts.specs.Content.{content}
 use Rattle.bloom_steps.specs.declared.steps.vocabulary.Step.TheVariants.{Load, Or, And, Zero, Other}
@@ -9,7 +9,7 @@ use Rattle.bloom_steps.specs.declared.steps.vocabulary.End.TheVariants.{Running,
 use Rattle.bloom_steps.specs.declared.steps.vocabulary.Event.TheVariants.{Begin, Go}
 use Rattle.bloom_steps.specs.declared.steps.vocabulary.Record.TheVariants.{Began, Did}
 use Rattle.bloom_steps.specs.Courses.{Course, Follows, next_event, no_event, records_of}
-use Rattle.bloom_steps.specs.Interleavings.{IsBalanced, bits_on, bits_taken, count_below, found_off}
+use Rattle.bloom_steps.specs.Interleavings.{IsBalanced, bits_gained, bits_new, bits_on, bits_taken, count_below}
 use Rattle.bloom_steps.specs.Moments.{bits_of}
 
 -- the word 5 has two bits set
@@ -33,7 +33,7 @@ taken-bits = (refl, refl, refl, refl, refl, refl, refl)
 -- the four numbers of a course: set at the start, set by steps, taken, left
 pub record HasCounts (run : Course) (start gained taken left : ℕ) : Type 0 where
   pub at_start : count_below (bits_of run) (content run.start) ≡ start
-  pub turned_on : count_by found_off run.records ≡ gained
+  pub turned_on : sum_by bits_gained run.records ≡ gained
   pub found : sum_by bits_taken run.records ≡ taken
   pub at_end : count_below (bits_of run) (content run.words) ≡ left
 
@@ -75,12 +75,12 @@ one-follows = record {
 
 -- the numbers of the take of the words 5 and 2: 3 + 0 = (2 + 1) + 0
 one-counts : HasCounts one 3 0 3 0
-unfolding content bits_on
+unfolding content bits_on bits_new
 one-counts = record { at_start = refl; turned_on = refl; found = refl; at_end = refl }
 
 -- after its first step the take of the words 5 and 2 is balanced: 3 + 0 = 2 + 1
 one-balanced : IsBalanced one 2
-unfolding content bits_on
+unfolding content bits_on bits_new
 one-balanced = refl
 
 -- two parties take the word 7, and only the first to go finds it
@@ -94,5 +94,5 @@ both = record {
 
 -- the numbers of the two takes: 3 + 0 = (3 + 0) + 0
 both-counts : HasCounts both 3 0 3 0
-unfolding content bits_on
+unfolding content bits_on bits_new
 both-counts = record { at_start = refl; turned_on = refl; found = refl; at_end = refl }

@@ -9,12 +9,12 @@ use Rattle.bloom_steps.specs.declared.steps.vocabulary.Call.TheVariants.{Insert,
 use Rattle.bloom_steps.specs.declared.steps.vocabulary.End.TheVariants.{Running, Done, Answer}
 use Rattle.bloom_steps.specs.declared.steps.vocabulary.Record.TheVariants.{Began, Did}
 use Rattle.bloom_steps.specs.Courses.{CallAfterCall, Course, IsLawful, no_call, records_of, whole_call}
-use Rattle.bloom_steps.specs.Interleavings.{LosesNothing, TakesLoseNothing, adds_or_takes, bits_on}
+use Rattle.bloom_steps.specs.Interleavings.{LosesNothing, TakesLoseNothing, adds_or_takes, bits_new, bits_on}
 use Rattle.bloom_steps.specs.Scripts.{IsScript, Taken}
 use Rattle.bloom_steps.proofs.CourseFacts.Carrying.{carried}
 use Rattle.bloom_steps.proofs.CourseFacts.Lawful.{one-word}
 use Rattle.bloom_steps.proofs.CourseFacts.Parties.{none-past}
-use Rattle.bloom_steps.proofs.RunLemmas.Taken.{takes_lose_nothing}
+use Rattle.bloom_steps.proofs.RunLemmas.Gained.{takes_lose_nothing}
 use Rattle.bloom_steps.proofs.StepFacts.Members.{each-member, took}
 use Rattle.bloom_steps.proofs.CourseFacts.TakeCourses.{HasCounts}
 
@@ -97,12 +97,12 @@ between-kept = takes_lose_nothing 2 (between 1) lawful-between (each-between 1)
 
 -- the numbers of the course with the take: 0 + 2 = 1 + 1
 between-counts : HasCounts (between 1) 0 2 1 1
-unfolding content bits_on
+unfolding content bits_on bits_new
 between-counts = record { at_start = refl; turned_on = refl; found = refl; at_end = refl }
 
 -- the numbers where the take doesn't tell the bit that it cleared: 0 + 2 against 0 + 1
 lost-counts : HasCounts (between 0) 0 2 0 1
-unfolding content bits_on
+unfolding content bits_on bits_new
 lost-counts = record { at_start = refl; turned_on = refl; found = refl; at_end = refl }
 
 -- the theorem on takes fails of a take that doesn't tell the bit
@@ -114,12 +114,12 @@ lost keeps =
 
 -- the theorem on takes fails just after a take that doesn't tell the bit already
 lost-then : TakesLoseNothing (between 0) → ⊥
-unfolding content bits_on
+unfolding content bits_on bits_new
 lost-then keeps = let even = (keeps (each-between 0)).always 4 (omega arith) in cc
 
 -- the numbers where the take tells a bit that was clear: 0 + 2 against 2 + 1
 invented-counts : HasCounts (between 3) 0 2 2 1
-unfolding content bits_on
+unfolding content bits_on bits_new
 invented-counts = record { at_start = refl; turned_on = refl; found = refl; at_end = refl }
 
 -- the theorem on takes fails of a take that tells a bit that was clear
@@ -131,7 +131,7 @@ invented keeps =
 
 -- the theorem on takes fails already just after a take that tells a bit that was clear
 invented-then : TakesLoseNothing (between 3) → ⊥
-unfolding content bits_on
+unfolding content bits_on bits_new
 invented-then keeps = let even = (keeps (each-between 3)).always 4 (omega arith) in cc
 
 -- with a clear in the take's place a bit is lost, 0 + 2 against 0 + 1, so the premise is needed
@@ -145,7 +145,7 @@ cleared = record {
 
 -- the numbers with a clear in the take's place
 cleared-counts : HasCounts cleared 0 2 0 1
-unfolding content bits_on
+unfolding content bits_on bits_new
 cleared-counts = record { at_start = refl; turned_on = refl; found = refl; at_end = refl }
 
 -- inserts, look-ups and takes add or take; clears, unions and intersections don't

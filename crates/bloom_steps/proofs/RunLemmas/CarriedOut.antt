@@ -1,5 +1,5 @@
 -- Records that were carried out on words, one after the other: what each step found, and did.
-use Rattle.std.proofs.Common.{[], ◌/◌, ◌∙◌, ◌∷◌, ◌≡◌, List, Some, ap, map, refl, slice_get, slice_index, suc, sym, take, unwrap_or, zero, ℕ}
+use Rattle.std.proofs.Common.{[], ◌/◌, ◌<◌, ◌∙◌, ◌∷◌, ◌≡◌, List, Some, ap, length, map, refl, slice_get, slice_index, subst, suc, sym, take, unwrap_or, zero, ℕ}
 use Rattle.std.proofs.lemmas.Option.{none-some, same_Some}
 use Rattle.bloom_parts.specs.Content.{bit_is_on, content}
 use Rattle.bloom_parts.specs.Deciders.{decides_nothing}
@@ -18,9 +18,9 @@ use Rattle.bloom_steps.specs.Steps.{after_records, record_decides, step_decides,
 use Rattle.bloom_steps.proofs.RunLemmas.KindEnds.{kind_tells}
 use Rattle.bloom_steps.proofs.RunLemmas.Kinds.{Kind}
 use Rattle.bloom_steps.proofs.RunLemmas.PartyRecords.{did_of-same}
-use Rattle.bloom_steps.proofs.RunLemmas.Scripted.{FindsBits, FoundBits}
+use Rattle.bloom_steps.proofs.RunLemmas.Scripted.{FindsBits, FoundBits, IsWithin, StepsWithin}
 use Rattle.bloom_steps.proofs.StepLemmas.Deciding.{state-first, state-same}
-use Rattle.bloom_steps.proofs.StepLemmas.Writing.{content-step, content-word}
+use Rattle.bloom_steps.proofs.StepLemmas.Writing.{content-step, content-word, length-step}
 
 -- a step that was carried out can be taken into the words before
 after-step : (words : List ℕ) (step : Step) (rs : List Record) (p party found : ℕ) (ended : End)
@@ -91,6 +91,42 @@ carried-finds run made m party = go
     go (Other i) found ended at = tt
     go (Take i) found ended at = bits (Take i) found ended at (λ ws given. refl)
 
+-- a step that was carried out is on one of the words
+carried-within : (words : List ℕ) (rs : List Record) (after : List ℕ) → CarriedOut words rs after
+    → (m party : ℕ) (step : Step) (found : ℕ) (ended : End)
+    → slice_get rs m ≡ Some (Did party step found ended) → word_index step < length words
+carried-within words [] after made m party step found ended e = absurd (none-some _ e)
+carried-within words (Began q call ∷ rs) after made zero party step found ended e =
+    absurd (let f = same_Some _ _ e in cc)
+carried-within words (Began q call ∷ rs) after made (suc m) party step found ended e =
+    carried-within words rs after made m party step found ended e
+carried-within words (Did q x f d ∷ rs) after (within, finds, made) zero party step found ended e =
+    let same : x ≡ step = (let k = same_Some _ _ e in cc) in
+    subst (λ y. word_index y < length words) same within
+carried-within words (Did q x f d ∷ rs) after (within, finds, made) (suc m) party step found ended
+    e =
+    subst (λ n. word_index step < n) (length-step words x)
+    (carried-within (words_after_step words x) rs after made m party step found ended e)
+
+-- so is each that sets bits, or takes a word
+carried-steps : (run : Course) → CarriedOut run.start run.records run.words → StepsWithin run
+carried-steps run made m party = go
+  where
+    within : (step : Step) (found : ℕ) (ended : End)
+        → slice_get run.records m ≡ Some (Did party step found ended)
+        → word_index step < length run.start
+    within = carried-within run.start run.records run.words made m party
+
+    go : (step : Step) (found : ℕ) (ended : End)
+        → slice_get run.records m ≡ Some (Did party step found ended)
+        → IsWithin (length run.start) step
+    go (Load i) found ended at = tt
+    go (Or i mask) found ended at = within (Or i mask) found ended at
+    go (And i mask) found ended at = tt
+    go (Zero i) found ended at = tt
+    go (Other i) found ended at = tt
+    go (Take i) found ended at = within (Take i) found ended at
+
 -- a course of a kind gives what each kind gives
 pub course_tells : (kind : Kind) (words : ℕ) (run : Course) → IsCourseOf words kind.Script run
     → CourseTells kind.Positions kind.is_in run
@@ -98,6 +134,7 @@ course_tells kind words run course =
     kind_tells kind run
     (record {
       finds = carried-finds run course.carried;
+      within = carried-steps run course.carried;
       bits = λ p. carried-bits run.start run.records run.words p course.carried;
       calls = course.calls;
     })

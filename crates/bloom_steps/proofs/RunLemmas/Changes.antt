@@ -1,6 +1,6 @@
 -- What a record changes, and what stays.
 use Rattle.bloom_steps.specs.declared.steps.vocabulary.End.TheVariants.{Answer}
-use Rattle.std.proofs.Common.{◌%◌, ◌&&◌, ◌+◌, ◌/◌, ◌<◌, ◌^◌, ◌∙◌, ◌≡◌, ◌≢◌, ◌≤◌, ◌⊎◌, Bool, None, Option, Some, ap, arith, eq-eqb, false, if◌then◌else◌, inl, inr, nat_eq, not, refl, slice_get, subst, suc, sym, take, true, unwrap_or, zero, ℕ}
+use Rattle.std.proofs.Common.{◌%◌, ◌&&◌, ◌+◌, ◌/◌, ◌<◌, ◌^◌, ◌∙◌, ◌≡◌, ◌≢◌, ◌≤◌, ◌⊎◌, Bool, None, Option, Some, ap, arith, eq-eqb, false, if◌then◌else◌, inl, inr, nat_eq, not, refl, slice_get, suc, sym, take, true, unwrap_or, zero, ℕ}
 use Rattle.std.proofs.lemmas.Bool.{and_from, and_parts, both_ways, eqb-true}
 use Rattle.std.proofs.lemmas.Bool.Decides.{eqb_tells}
 use Rattle.std.proofs.lemmas.Nat.Bits.{bit_at-pow_other, bit_at-pow_same}
@@ -12,7 +12,7 @@ use Rattle.bloom_steps.specs.declared.steps.vocabulary.Step.TheVariants.{Or}
 use Rattle.bloom_steps.specs.Moments.{moment, turns_off, turns_on}
 use Rattle.bloom_steps.specs.Scripts.{Taken}
 use Rattle.bloom_steps.specs.Steps.{after_records, or_at, record_decides, step_decides}
-use Rattle.bloom_steps.specs.Courses.{Course, IsLawful, MayFind}
+use Rattle.bloom_steps.specs.Courses.{Course, IsLawful}
 use Rattle.bloom_steps.proofs.StepLemmas.Deciding.{records-more}
 use Rattle.bloom_steps.proofs.StepLemmas.Members.{take-more}
 
@@ -127,12 +127,6 @@ module _ (run : Course) where
 -- a step of a lawful run
 module _ (k : ℕ) (run : Course) (lawful : IsLawful k run) (m party q : ℕ) (t : Taken)
     (at : slice_get run.records m ≡ Some (Did party t.step t.found t.ended)) where
-  -- a step that sets a position found its bit as it was
-  pub found-or : t.step ≡ or_at q → bit_is_on t.found q ≡ moment run m q
-  found-or step =
-      let finds = lawful.finds m party t.step t.found t.ended at in
-      (subst (λ x. MayFind (moment run m) x t.found) step finds).bits q refl
-
   -- what a step that sets a position does to each
   pub moment-or : (j : ℕ) → t.step ≡ or_at q
       → moment run (m + 1) j ≡ unwrap_or (step_decides (or_at q) j) (moment run m j)

@@ -1,10 +1,9 @@
 -- How many numbers below a bound pass a test.
 use Rattle.std.proofs.Common.{◌%◌, ◌&&◌, ◌*◌, ◌+◌, ◌-◌, ◌/◌, ◌<◌, ◌∙◌, ◌≡◌, ◌≢◌, ◌≤◌, ◌⊎◌, Bool, ap, arith, false, if◌then◌else◌, inl, inr, nat_eq, not, refl, suc, sym, true, zero, ℕ}
 use Rattle.std.proofs.lemmas.Bool.{both_ways}
-use Rattle.std.proofs.lemmas.Bool.Decides.{eqb_tells}
 use Rattle.std.specs.Int.{bit_at}
 use Rattle.bloom_parts.specs.Content.{bit_is_on}
-use Rattle.bloom_steps.specs.Interleavings.{bits_on, count_below}
+use Rattle.bloom_steps.specs.Interleavings.{bits_new, bits_on, count_below}
 
 -- tests that agree below a bound pass as many
 pub count_below-same : (n : ℕ) (f g : ℕ → Bool) → ((i : ℕ) → i < n → f i ≡ g i)
@@ -21,30 +20,6 @@ count_below-none zero f none = refl
 count_below-none (suc n) f none =
     ap (λ b. if b then count_below n f + 1 else count_below n f) (none n (omega arith))
     ∙ count_below-none n f (λ i l. none i (omega arith))
-
--- one number more below the bound
-pub count_below-more : (n at : ℕ) (f g : ℕ → Bool) → ((i : ℕ) → i ≢ at → f i ≡ g i) → f at ≡ false
-    → g at ≡ true
-    → at < n → count_below n g ≡ count_below n f + 1
-count_below-more zero at f g same off on l = absurd (omega arith)
-count_below-more (suc n) at f g same off on l = elim (eqb_tells n at) [
-  | inl here ↦
-      let e = here.1 in
-      let below = count_below-same n f g (λ i b. same i (λ z. absurd (omega (arith, b, z, e)))) in
-      ap (λ b. if b then count_below n g + 1 else count_below n g) (ap g e ∙ on)
-      ∙ ap (λ c. c + 1) (sym below)
-      ∙ ap (λ c. c + 1)
-      (sym (ap (λ b. if b then count_below n f + 1 else count_below n f) (ap f e ∙ off)))
-  | inr other ↦
-      let apart = other.1 in
-      let below = count_below-more n at f g same off on (omega arith) in
-      ap (λ b. if b then count_below n g + 1 else count_below n g) (sym (same n apart))
-      ∙ ap (λ c. if f n then c + 1 else c) below ∙ go (f n) (count_below n f)
-]
-  where
-    go : (b : Bool) (c : ℕ) → (if b then (c + 1) + 1 else c + 1) ≡ (if b then c + 1 else c) + 1
-    go true c = refl
-    go false c = refl
 
 -- the numbers that pass are those of a part and those of the rest
 pub count_below-part : (n : ℕ) (f g : ℕ → Bool) → ((i : ℕ) → f i ≡ true → g i ≡ true)
@@ -118,3 +93,29 @@ count_below-word w i word f g l part same =
       | inl low ↦ absurd (omega (arith, low, e))
       | inr high ↦ absurd (omega (arith, high, e))
     ]))
+
+-- where bits of a word are added, the count is more by those of the mask that were clear
+pub count_below-gained : (w i mask word : ℕ) (f g : ℕ → Bool) → i < w
+    → ((p : ℕ) → f p ≡ true → g p ≡ true)
+    → ((p : ℕ) → p / 64 ≡ i
+    → (g p && not (f p)) ≡ (bit_is_on mask p && not (bit_is_on word p)))
+    → ((p : ℕ) → p / 64 ≢ i → (g p && not (f p)) ≡ false)
+    → count_below (64 * w) g ≡ count_below (64 * w) f + bits_new mask word
+unfolding bits_new
+count_below-gained w i mask word f g l part inside outside =
+    let whole = count_below-part (64 * w) f g part in
+    let gains =
+    count_below-less (64 * w) (64 * w - (64 + 64 * i)) 64 (64 * i) (λ p. g p && not (f p))
+    (λ p. false) (λ j. bit_is_on mask j && not (bit_is_on word j)) (omega arith)
+    (λ j b.
+    let bit : j % 64 ≡ (j + 64 * i) % 64 = omega (arith, b) in (
+      ap (λ n. nat_eq (bit_at mask n) 1 && not (nat_eq (bit_at word n) 1)) bit
+          ∙ sym (inside (j + 64 * i) (omega (arith, b))),
+      refl,
+    ))
+    (λ p out. outside p (λ e. elim out [
+      | inl low ↦ absurd (omega (arith, low, e))
+      | inr high ↦ absurd (omega (arith, high, e))
+    ])) in
+    let none = count_below-none (64 * w) (λ p. false) (λ p b. refl) in
+    omega (arith, whole, gains, none)

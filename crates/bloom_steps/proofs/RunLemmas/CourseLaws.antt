@@ -3,10 +3,9 @@ use Rattle.std.specs.Prelude.{ℕ, ◌≤◌, length}
 use Rattle.bloom_steps.specs.CourseLaws.{LawfulTells}
 use Rattle.bloom_steps.specs.Courses.{Course, IsLawful}
 use Rattle.bloom_steps.proofs.RunLemmas.Commands.{acts_as_commands}
-use Rattle.bloom_steps.proofs.RunLemmas.Gained.{counts_gains}
+use Rattle.bloom_steps.proofs.RunLemmas.Gained.{counts_gains, takes_lose_nothing}
 use Rattle.bloom_steps.proofs.RunLemmas.Grows.{ends_with_all}
 use Rattle.bloom_steps.proofs.RunLemmas.PlainCalls.{tells}
-use Rattle.bloom_steps.proofs.RunLemmas.Taken.{takes_lose_nothing}
 
 -- every lawful course of some words and hashes gives it
 pub course_law : (k : ℕ) (run : Course) → 1 ≤ k → 1 ≤ length run.start → IsLawful k run

@@ -5,7 +5,7 @@ use Rattle.bloom_steps.specs.declared.steps.vocabulary.Call.{Call}
 use Rattle.bloom_steps.specs.declared.steps.vocabulary.Call.TheVariants.{Insert}
 use Rattle.bloom_steps.specs.declared.steps.vocabulary.Record.TheVariants.{Began, Did}
 use Rattle.bloom_steps.specs.Courses.{Course, IsLawful, runs}
-use Rattle.bloom_steps.specs.Interleavings.{EndsWithAll, IsInserted}
+use Rattle.bloom_steps.specs.CourseLaws.{EndsWithAll, IsInserted}
 use Rattle.bloom_steps.specs.Moments.{EveryCall, EveryCallEnded}
 use Rattle.bloom_steps.specs.Plans.{turns_none_off}
 use Rattle.bloom_steps.specs.Scripts.{IsBeginning, IsScript, Taken}

@@ -1,22 +1,38 @@
 -- What every interleaving of calls of any kind gives, and with it how growing courses end.
-use Rattle.std.proofs.Common.{◌/◌, List, inl, inr, ℕ}
+use Rattle.std.proofs.Common.{◌/◌, ◌≡◌, Bool, List, inl, inr, true, ℕ}
 use Rattle.bloom_steps.specs.declared.steps.vocabulary.Call.{Call}
 use Rattle.bloom_steps.specs.declared.steps.vocabulary.Call.TheVariants.{Insert}
 use Rattle.bloom_steps.specs.declared.steps.vocabulary.End.{End}
 use Rattle.bloom_steps.specs.declared.steps.vocabulary.Step.TheVariants as step
 use Rattle.bloom_steps.specs.Carried.{MadeBetween}
-use Rattle.bloom_steps.specs.CourseLaws.{CourseTells, EachStepOf, EndsWithInserts, EndsWithUnions, HasFinishedInsert}
+use Rattle.bloom_steps.specs.CourseLaws.{CourseTells, EachStepOf, EndsWithInserts, EndsWithUnions, HasFinishedInsert, IsStepOf}
 use Rattle.bloom_steps.specs.Courses.{Course}
-use Rattle.bloom_steps.specs.Interleavings.{IsFoundInOther}
-use Rattle.bloom_steps.specs.Moments.{IsFinished}
+use Rattle.bloom_steps.specs.Interleavings.{GainsOnce, IsFoundInOther}
+use Rattle.bloom_steps.specs.Moments.{IsFinished, IsStepAt}
 use Rattle.bloom_steps.specs.Plans.{goes_by_hash, plan_of, turns_none_off}
 use Rattle.bloom_steps.specs.Scripts.{Taken}
 use Rattle.bloom_steps.proofs.RunLemmas.Growing.{Owners, ends}
+use Rattle.bloom_steps.proofs.RunLemmas.KindCounts.{balanced, balances, takes-none}
 use Rattle.bloom_steps.proofs.RunLemmas.KindSteps.{StepKind, kind-of, of-hash}
 use Rattle.bloom_steps.proofs.RunLemmas.KindTakes.{loses-no-position, takes-what-is-there}
 use Rattle.bloom_steps.proofs.RunLemmas.Kinds.{Kind, contains, found, inserts}
 use Rattle.bloom_steps.proofs.RunLemmas.Scripted.{IsScripted, record-of, step-of}
-use Rattle.bloom_steps.proofs.StepLemmas.Plans.{hash-grows}
+use Rattle.bloom_steps.proofs.RunLemmas.Taken.{gains_once}
+use Rattle.bloom_steps.proofs.StepLemmas.Plans.{hash-adds, hash-grows}
+
+-- a call that passes one test passes another
+passed : {test other : Call → Bool} {run : Course} {m party : ℕ} (of : IsStepOf test run m party)
+    → other of.call ≡ true → IsStepOf other run m party
+passed of passes = record {
+  call = of.call;
+  passes = passes;
+  began = of.began;
+  last = of.last;
+  ended = of.ended;
+  finished = of.finished;
+  later = of.later;
+  upto = of.upto;
+}
 
 -- a course of calls of a kind
 module _ (kind : Kind) (run : Course) (course : IsScripted kind.Script run) where
@@ -76,23 +92,22 @@ module _ (kind : Kind) (run : Course) (course : IsScripted kind.Script run) wher
   ends-with-inserts : EndsWithInserts kind.Positions run
   ends-with-inserts each p =
       let all = ends-with-unions (λ m party ended at.
-      let of = each m party ended at in
-      record {
-        call = of.call;
-        passes = hash-grows (plan_of of.call) of.passes;
-        began = of.began;
-        last = of.last;
-        ended = of.ended;
-        finished = of.finished;
-        later = of.later;
-        upto = of.upto;
-      }) p in (
+      let of = each m party ended at in passed of (hash-grows (plan_of of.call) of.passes)) p in (
         (λ on. elim (all.0 on) [
           | inl before ↦ inl before
           | inr y ↦ elim y [ inl i ↦ inr i | inr o ↦ absurd (none-found each p o) ]
         ]),
         (λ x. all.1 (elim x [ inl before ↦ inl before | inr i ↦ inr (inl i) ])),
       )
+
+  -- each position is set once
+  gains-each-once : EachStepOf (λ call. goes_by_hash (plan_of call)) run → GainsOnce run
+  gains-each-once each =
+      let adds = λ (m : ℕ) (party : ℕ) (ended : End) (at : IsStepAt run.records m party ended).
+      let of = each m party ended at in
+      passed of (hash-adds of.call of.passes) in
+      gains_once run course.bits (balances kind run course adds) (takes-none kind run course each)
+      (λ p on. (ends-with-inserts each p).1 (inl on))
 
   -- what every interleaving gives
   pub kind_tells : CourseTells kind.Positions kind.is_in run
@@ -103,6 +118,8 @@ module _ (kind : Kind) (run : Course) (course : IsScripted kind.Script run) wher
     contains = contains kind run course;
     grows = ends-with-inserts;
     unites = ends-with-unions;
+    gained = gains-each-once;
     kept = loses-no-position kind run course;
+    balanced = balanced kind run course;
     taken = takes-what-is-there kind run course;
   }

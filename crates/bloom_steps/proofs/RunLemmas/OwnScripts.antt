@@ -12,10 +12,11 @@ use Rattle.bloom_steps.specs.Carried.{MadeBetween}
 use Rattle.bloom_steps.specs.Moments.{IsFinished, moment}
 use Rattle.bloom_steps.specs.Scripts.{IsBeginning, IsScript, Taken}
 use Rattle.bloom_steps.specs.Courses.{Course, IsLawful, MayFind, did, records_of}
+use Rattle.bloom_steps.proofs.RunLemmas.LawfulWithin.{lawful-within}
 use Rattle.bloom_steps.proofs.RunLemmas.RunningCalls.{one_end-script}
 use Rattle.bloom_steps.proofs.RunLemmas.PartyRecords.{did-got, own_of_record, records_of-append, records_of-mine}
 use Rattle.bloom_steps.proofs.RunLemmas.CallRecords.{EndsAt, Segment, front_is, segment}
-use Rattle.bloom_steps.proofs.RunLemmas.Scripted.{FoundBits, IsScripted, member-drop}
+use Rattle.bloom_steps.proofs.RunLemmas.Scripted.{FindsBits, FoundBits, IsScripted, member-drop}
 use Rattle.bloom_steps.proofs.StepLemmas.Whole.{beginning_runs, script_some}
 
 -- records before a member, the member, and those after it
@@ -121,12 +122,17 @@ found-bits A (Zero i) found may = tt
 found-bits A (Other i) found may = tt
 found-bits A (Take i) found may = may.bits
 
+-- each step of a lawful run found the bits that were there
+pub lawful-finds : (k : ℕ) (run : Course) → IsLawful k run → FindsBits run
+lawful-finds k run lawful m party step found ended at =
+    found-bits (moment run m) step found (lawful.finds m party step found ended at)
+
 -- a lawful run of some words and hashes is a course whose calls made scripts
 pub scripted : (k : ℕ) (run : Course) → IsLawful k run → 1 ≤ length run.start → 1 ≤ k
     → IsScripted (IsScript (length run.start) k) run
 scripted k run lawful some_words some_hashes = record {
-  finds = λ m party step found ended at.
-      found-bits (moment run m) step found (lawful.finds m party step found ended at);
+  finds = lawful-finds k run lawful;
+  within = lawful-within k run lawful;
   bits = lawful.bits;
   calls = own_script k run lawful some_words some_hashes;
 }

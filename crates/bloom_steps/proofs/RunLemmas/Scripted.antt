@@ -33,9 +33,25 @@ FindsBits run = (m party : ℕ) (step : Step) (found : ℕ) (ended : End)
     → slice_get run.records m ≡ Some (Did party step found ended)
     → FoundBits (moment run m) step found
 
+-- a step that sets bits, or takes a word, does so in one of some words
+abbrev pub IsWithin : ℕ → Step → Type 0
+IsWithin w (Load i) = Unit {0}
+IsWithin w (Or i mask) = i < w
+IsWithin w (And i mask) = Unit {0}
+IsWithin w (Zero i) = Unit {0}
+IsWithin w (Other i) = Unit {0}
+IsWithin w (Take i) = i < w
+
+-- each step that sets bits, or takes a word, does so in one of the words
+abbrev pub StepsWithin : Course → Type 0
+StepsWithin run = (m party : ℕ) (step : Step) (found : ℕ) (ended : End)
+    → slice_get run.records m ≡ Some (Did party step found ended)
+    → IsWithin (length run.start) step
+
 -- a course whose finished calls each made the steps of one of the call's scripts
 pub record IsScripted (Script : Call → List Taken → Type 0) (run : Course) : Type 0 where
   pub finds : FindsBits run
+  pub within : StepsWithin run
   pub bits : BitsTell run
   pub calls : (party : ℕ) (call : Call) (began last : ℕ) (ended : End)
       → IsFinished run party call began last ended

@@ -6,8 +6,9 @@ use Rattle.bloom_parts.specs.Places.{IsPosition, are_in}
 use Rattle.bloom_parts.specs.declared.error.FilterError.TheVariants.{Memory}
 use Rattle.bloom_steps.specs.declared.steps.runner.World.{World}
 use Rattle.bloom_steps.specs.declared.steps.vocabulary.Event.{Event}
+use Rattle.bloom_steps.specs.CourseLaws.{EndsWithAll}
 use Rattle.bloom_steps.specs.Courses.{Course, Follows, FollowsFrom, IsLawful}
-use Rattle.bloom_steps.specs.Interleavings.{ContainsTell, CountsGains, EndsWithAll, FindsInserted, InsertsTell, TakesLoseNothing}
+use Rattle.bloom_steps.specs.Interleavings.{ContainsTell, CountsGains, FindsInserted, InsertsTell, TakesLoseNothing}
 use Rattle.bloom_steps.specs.Moments.{bits_of}
 use Rattle.bloom_steps.specs.Sequences.{ActsAsCommands}
 use Rattle.bloom_steps.proofs.RunLemmas.CourseLaws.{course_law}

@@ -6,6 +6,7 @@ use Rattle.bloom_steps.specs.declared.steps.vocabulary.Call.{Call}
 use Rattle.bloom_steps.specs.declared.steps.vocabulary.Call.TheVariants.{Clear, Contains, Insert, Intersect, Take, Union}
 use Rattle.bloom_steps.specs.declared.steps.vocabulary.Step.{Step}
 use Rattle.bloom_steps.specs.declared.steps.vocabulary.Step.TheVariants.{And, Or}
+use Rattle.bloom_steps.specs.Interleavings.{adds_or_takes}
 use Rattle.bloom_steps.specs.Plans.{EachPair, EachWord, LooksAt, Plan, TurnsOn, goes_by_hash, plan_of, turns_none_off}
 use Rattle.bloom_steps.specs.Sequences.{found_in_other}
 use Rattle.bloom_steps.specs.Steps.{step_decides}
@@ -88,3 +89,12 @@ hash-grows (TurnsOn h) e = refl
 hash-grows (LooksAt h) e = refl
 hash-grows (EachWord op) e = e
 hash-grows (EachPair op on) e = absurd (both_ways false refl e)
+
+-- a call that goes by a hash is an insert or a look-up
+pub hash-adds : (call : Call) → goes_by_hash (plan_of call) ≡ true → adds_or_takes call ≡ true
+hash-adds (Insert h) e = refl
+hash-adds (Contains h) e = refl
+hash-adds Clear e = e
+hash-adds Union e = e
+hash-adds Intersect e = e
+hash-adds Take e = refl

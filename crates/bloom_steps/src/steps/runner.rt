@@ -2,7 +2,8 @@
 ghost use Rattle.std.specs.Prelude.{◌≡◌, ◌+◌, ◌≤◌, ◌<◌, ◌^◌, [], length, vec_len, vec_capacity, IfOk, IsOkUnless};
 ghost use Rattle.bloom_steps.specs.declared.steps.vocabulary.Event.TheVariants.{Begin, Go};
 ghost use Rattle.bloom_parts.specs.Places.{IsPosition, are_in};
-ghost use Rattle.bloom_steps.specs.Interleavings.{InsertsTell, ContainsTell, FindsInserted, EndsWithAll, CountsGains, TakesLoseNothing};
+ghost use Rattle.bloom_steps.specs.CourseLaws.{EndsWithAll};
+ghost use Rattle.bloom_steps.specs.Interleavings.{InsertsTell, ContainsTell, FindsInserted, CountsGains, TakesLoseNothing};
 ghost use Rattle.bloom_steps.specs.Sequences.{ActsAsCommands};
 ghost use Rattle.bloom_steps.specs.Courses.{IsLawful, Follows};
 ghost use Rattle.bloom_steps.specs.Moments.{bits_of};
