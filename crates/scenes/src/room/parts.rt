@@ -35,6 +35,7 @@ fn is_driven(store: &mut MemoryStore) -> bool {
     let is_new = drive(store, Call::Insert(1), 2) == Some(false);
     is_new & (store.words() == [1048577].as_slice()) & (store.num_words() == 1)
 }
+
 // Whether a hash lies where it is to, and a shape, a status and a number are what they are to be.
 fn are_numbers(rt: &HostRuntime) -> bool {
     let are_told = (Fault::Memory.status() == 3) & (FilterError::Worker.code() == 8);
