@@ -11,11 +11,12 @@ mod sets;
 
 /// Every scripted test, by tables. A check takes longer for one long table than for two of half its
 /// length, so each table is of one subject.
-pub(crate) fn all() -> [&'static [ScriptedTest]; 7] {
+pub(crate) fn all() -> [&'static [ScriptedTest]; 8] {
     [
         by_hash::HASHES,
         by_hash::CALLS,
         by_hash::MADE,
+        by_hash::TOLD,
         sets::MEETINGS,
         sets::COMPARISONS,
         items::ITEMS,

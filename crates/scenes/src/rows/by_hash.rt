@@ -82,7 +82,7 @@ pub(super) const CALLS: &'static [ScriptedTest] = &[
     ),
 ];
 
-/// Filters that are made, copied, and turned to data.
+/// Filters that are made, and copied.
 pub(super) const MADE: &'static [ScriptedTest] = &[
     // No hashes count as one. The logarithm of 2 times 64 is 44.4, and one is halved once to come
     // to a half, nearly ten times to come to a thousandth, and not at all for 3/2.
@@ -126,6 +126,10 @@ pub(super) const MADE: &'static [ScriptedTest] = &[
         (Clone, true),
         (Words(&[0]), true),
     ),
+];
+
+/// Rates that are expected, and data.
+pub(super) const TOLD: &'static [ScriptedTest] = &[
     // One bit of 64 is a 64th of 2^63 units.
     scripted_test!(
         "one hash of one item sets one bit",
