@@ -13,6 +13,7 @@ use bloom_parts::bit_vector::TurnWords;
 #[derive(Drop)]
 pub(super) struct KeepingStore<'a, 'k, W: TurnWords> {
     pub(super) words: SpanStore<'a, W>,
+    // It has a lifetime of its own, or a caller's proof wouldn't learn what it holds in the end.
     pub(super) kept: &'k mut [u64],
     ghost fits: { length kept.now ≡ words.count },
 }
