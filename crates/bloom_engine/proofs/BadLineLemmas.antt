@@ -109,8 +109,8 @@ pub upto : (read mid left : Option (List ℕ)) (block : List ℕ) (lines : List 
     → IfSome read (λ bytes. IsReadUpTo bytes read left lines)
 upto None mid left block lines p q = tt
 upto (Some x) None left block lines p q = absurd p.taken
-upto (Some x) (Some y) None block lines p (inl q) = absurd q.takes
-upto (Some x) (Some y) None block lines p (inr q) = absurd q
+upto (Some x) (Some y) None block lines p (inl q) = absurd q.takes.cut
+upto (Some x) (Some y) None block lines p (inr q) = absurd q.cut
 upto (Some x) (Some y) (Some z) block lines p (inl q) =
     let before = p.taken in
     let took = q.takes in

@@ -5,23 +5,23 @@ use Rattle.bloom_engine.specs.declared.engine.line.Line.{Line}
 use Rattle.bloom_engine.specs.declared.engine.line.Line.TheVariants.{Insert}
 use Rattle.lines.specs.Lines.{lines_by}
 use Rattle.bloom_engine.specs.Lines.{line_of, number_of}
-use Rattle.bloom_engine.specs.Served.{IsReadGood, Reaches, IsReadUpTo, ServedAll, ServedUpTo}
+use Rattle.bloom_engine.specs.Served.{AreAllGood, Reaches, IsReadUpTo, ServedAll, ServedUpTo}
 use Rattle.bloom_plain.specs.Filter.{Filter}
 use Rattle.bloom_engine.proofs.CarriedFacts.{zeros, with_one, carried, carried-text, carried-bits}
 
 -- each line was good, and nothing is left
-whole : IsReadGood (Some (codes "i 1\n")) (Some []) (Insert 1 ∷ [])
+whole : AreAllGood (codes "i 1\n") (Some []) (Insert 1 ∷ [])
 unfolding lines_by line_of number_of
 whole = record { good = refl; none_left = refl }
 
 -- no byte may be left
-whole-left : (lines : List Line) → IsReadGood (Some (codes "i 1\n")) (Some (10 ∷ [])) lines → ⊥
+whole-left : (lines : List Line) → AreAllGood (codes "i 1\n") (Some (10 ∷ [])) lines → ⊥
 whole-left lines is = let left : ◌≡◌ {A = Option (List ℕ)} (Some (10 ∷ [])) (Some []) =
     is.none_left in
     cc
 
 -- no line may be bad
-whole-bad : (lines : List Line) → IsReadGood (Some (codes "x\n")) (Some []) lines → ⊥
+whole-bad : (lines : List Line) → AreAllGood (codes "x\n") (Some []) lines → ⊥
 unfolding lines_by line_of
 whole-bad [] is = let bad : ◌≡◌ {A = List (Option Line)} (None ∷ []) [] = is.good in cc
 whole-bad (line ∷ lines) is =
@@ -29,7 +29,7 @@ whole-bad (line ∷ lines) is =
 
 -- only these lines are good
 whole-lines : (left : Option (List ℕ)) (lines : List Line)
-    → IsReadGood (Some (codes "i 1\n")) left lines → lines ≡ Insert 1 ∷ []
+    → AreAllGood (codes "i 1\n") left lines → lines ≡ Insert 1 ∷ []
 unfolding lines_by line_of number_of
 whole-lines left [] is =
     let good : ◌≡◌ {A = List (Option Line)} (Some (Insert 1) ∷ []) [] = is.good in cc

@@ -1,5 +1,6 @@
 -- From lines taken and carried out to what serving promises.
 use Rattle.std.proofs.Common.{◌≡◌, ℕ, ◌+◌, ◌^◌, ◌-◌, min, List, [], ◌∷◌, ◌++◌, length, map, Option, Some, None, Result, Err, false, refl, sym, ◌∙◌, ap, length-append, arith}
+use Rattle.std.specs.Prelude.{IfSome}
 use Rattle.std.specs.Io.KnownBytes.{Keeps, Appends, prepend_known}
 use Rattle.std.proofs.lemmas.Bool.{both_ways}
 use Rattle.bloom_plain.specs.Filter.{Filter}
@@ -14,7 +15,7 @@ use Rattle.lines.specs.Reading.{Ends, KnowsEnd, Waiting, left_of}
 use Rattle.lines.proofs.TakenLemmas as taken
 use Rattle.bloom_engine.specs.Lines.{line_of, longest_line}
 use Rattle.bloom_engine.specs.Reading.{NextCommand}
-use Rattle.bloom_engine.specs.Served.{Carried, IsReadGood, ServedAll, ServedUpTo}
+use Rattle.bloom_engine.specs.Served.{AreAllGood, Carried, ServedAll, ServedUpTo}
 use Rattle.bloom_engine.proofs.BadLineLemmas.{upto}
 use Rattle.bloom_engine.proofs.CarriedLemmas.{Carried-nil, Carried-more}
 use Rattle.bloom_engine.proofs.TakenLemmas.{TakesGood, TakesGood-nil, TakesGood-more}
@@ -49,14 +50,14 @@ Carried-kept f g o p q lines so_far kept = record {
 }
 
 -- nothing is left of the block and of the reader
-IsReadGood-from : (read left mid : Option (List ℕ)) (block : List ℕ) (lines : List Line)
+all-good : (read left mid : Option (List ℕ)) (block : List ℕ) (lines : List Line)
     → TakesGood read mid lines → Ends mid (prepend_known block left)
-    → IsReadGood read left lines
-IsReadGood-from read left mid block lines took ends =
+    → IfSome read (λ bytes. AreAllGood bytes left lines)
+all-good read left mid block lines took ends =
     at read (taken.IsReadWhole-from 10 read mid left block took.texts took.taken ends)
   where
     at : (read : Option (List ℕ)) → reading.IsReadWhole read left took.texts
-        → IsReadGood read left lines
+        → IfSome read (λ bytes. AreAllGood bytes left lines)
     at None whole = tt
     at (Some bytes) whole = record {
       good = ap (map line_of) whole.are_lines ∙ took.good;
@@ -111,7 +112,7 @@ module _ {S : Type 0} {read : Option (List ℕ)} {old : Filter S} {from : Option
     lines = so_far.lines;
     carried = carried;
     whole =
-        IsReadGood-from read left (left_of waiting rest) after.bytes so_far.lines so_far.taken
+        all-good read left (left_of waiting rest) after.bytes so_far.lines so_far.taken
         (rw end at is_next);
   }
 

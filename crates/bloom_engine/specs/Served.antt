@@ -27,10 +27,6 @@ pub record AreAllGood (bytes : List ℕ) (left : Option (List ℕ)) (lines : Lis
   pub good : map line_of (lines_of bytes) ≡ map Some lines
   pub none_left : left ≡ Some []
 
--- each line that the reader had is good, for a reader that may not tell its bytes
-abbrev pub IsReadGood : Option (List ℕ) → Option (List ℕ) → List Line → Type 0
-IsReadGood read left lines = IfSome read (λ bytes. AreAllGood bytes left lines)
-
 -- the reader gave the line `bad` of these bytes to its end, or more of it than a good line has
 pub record Reaches (given : List ℕ) (good : List (List ℕ)) (bad : List ℕ) : Type 0 where
   pub seen : List ℕ
@@ -56,7 +52,7 @@ pub record ServedAll {S : Type 0} (read left : Option (List ℕ)) (old new : Fil
     (from to : Option (List ℕ)) : Type 0 where
   pub lines : List Line
   pub carried : Carried old new from to lines
-  pub whole : IsReadGood read left lines
+  pub whole : IfSome read (λ bytes. AreAllGood bytes left lines)
 
 -- line n is the first that isn't good, and those before it were carried out; n stays at 2^64 - 1
 pub record ServedUpTo {S : Type 0} (n : ℕ) (read left : Option (List ℕ)) (old new : Filter S)

@@ -6,12 +6,13 @@ use Rattle.std.specs.Io.KnownBytes.{Consumes, IsAtEnd, Keeps, prepend_known}
 use Rattle.lines.specs.Lines.{has_no_end_by}
 use Rattle.lines.specs.Losing.{LosesPart}
 use Rattle.lines.specs.Pieces.{GrowsToEnd, GrowsByAll, GrowsTooLong}
-use Rattle.lines.specs.Reading.{HasTakenLineBy, TakesLineBy, TakesShortBy, TakesLongBy, is_told_by}
+use Rattle.lines.specs.Reading.{TakesLineBy, TakesShortBy, TakesLongBy, is_told_by}
 use Rattle.lines.proofs.LineLemmas.{lines_by-nil, lines_by-ended, lines_by-last, has_no_end-append, IsEnded-line}
 
 -- a line that was taken with its end
-pub taken-ended : {end : ℕ} {old new line : List ℕ} → old ≡ (line ++ end ∷ []) ++ new
-    → has_no_end_by end line ≡ true → HasTakenLineBy end old new line
+pub taken-ended : {end : ℕ} {old new : Option (List ℕ)} {line : List ℕ}
+    → Consumes old new (line ++ end ∷ []) → has_no_end_by end line ≡ true
+    → TakesLineBy end old new line
 taken-ended {end = end} {line = line} cut inside = record {
   taken = line ++ end ∷ [];
   cut = cut;
@@ -20,8 +21,8 @@ taken-ended {end = end} {line = line} cut inside = record {
 }
 
 -- a last line that has no end
-pub taken-last : {end : ℕ} {old new line : List ℕ} → old ≡ line ++ new
-    → has_no_end_by end line ≡ true → 0 < length line → new ≡ [] → HasTakenLineBy end old new line
+pub taken-last : {end : ℕ} {old new : Option (List ℕ)} {line : List ℕ} → Consumes old new line
+    → has_no_end_by end line ≡ true → 0 < length line → IsAtEnd new → TakesLineBy end old new line
 taken-last {end = end} {line = line} cut inside some none = record {
   taken = line;
   cut = cut;
@@ -90,12 +91,15 @@ module _ {end longest : ℕ} (old rest : Option (List ℕ)) {block line : List �
   pub takes-ended : {new more : List ℕ} → GrowsToEnd end longest block new line more
       → TakesShortBy end longest old (prepend_known new rest) more
   takes-ended {new = new} {more = more} found = record {
-    takes = at old rest so_far.taken;
+    takes =
+        taken-ended (at old rest so_far.taken)
+        (ap (has_no_end_by end) found.grows.joined
+        ∙ has_no_end-append end line found.part so_far.inside found.grows.inside);
     short = found.grows.short;
   }
     where
       at : (old rest : Option (List ℕ)) → Consumes old (prepend_known block rest) line
-          → TakesLineBy end old (prepend_known new rest) more
+          → Consumes old (prepend_known new rest) (more ++ end ∷ [])
       at None rest p = tt
       at (Some x) None p = absurd p
       at (Some x) (Some y) p =
@@ -103,33 +107,28 @@ module _ {end longest : ℕ} (old rest : Option (List ℕ)) {block line : List �
           let joined : line ++ part ≡ more = sym found.grows.joined in
           let all : line ++ (block ++ y) ≡ line ++ (part ++ end ∷ (new ++ y)) =
           ap (λ l. line ++ l) (ap (λ l. l ++ y) found.cut ∙ append_assoc part (end ∷ new) y) in
-          let cut : x ≡ (more ++ end ∷ []) ++ (new ++ y) =
           p ∙ all ∙ sym (append_assoc line part (end ∷ (new ++ y)))
           ∙ ap (λ l. l ++ end ∷ (new ++ y)) joined
-          ∙ sym (append_assoc more (end ∷ []) (new ++ y)) in
-          taken-ended cut
-          (ap (has_no_end_by end) found.grows.joined
-          ∙ has_no_end-append end line part so_far.inside found.grows.inside)
+          ∙ sym (append_assoc more (end ∷ []) (new ++ y))
 
   -- the line is too long
   pub takes-long : {new : List ℕ} → GrowsTooLong end longest block new line
       → TakesLongBy end longest old (prepend_known new rest)
-  takes-long {new = new} grows = at old rest so_far.taken
+  takes-long {new = new} grows = record {
+    taken = line ++ grows.part;
+    cut = at old rest so_far.taken;
+    inside = has_no_end-append end line grows.part so_far.inside grows.inside;
+    long = simp length-append (omega (arith, grows.long));
+  }
     where
       at : (old rest : Option (List ℕ)) → Consumes old (prepend_known block rest) line
-          → TakesLongBy end longest old (prepend_known new rest)
+          → Consumes old (prepend_known new rest) (line ++ grows.part)
       at None rest p = tt
       at (Some x) None p = absurd p
       at (Some x) (Some y) p =
           let part = grows.part in
-          record {
-            taken = line ++ part;
-            cut =
-                p ∙ ap (λ l. line ++ l) (ap (λ l. l ++ y) grows.cut ∙ append_assoc part new y)
-                ∙ sym (append_assoc line part (new ++ y));
-            inside = has_no_end-append end line part so_far.inside grows.inside;
-            long = simp length-append (omega (arith, grows.long));
-          }
+          p ∙ ap (λ l. line ++ l) (ap (λ l. l ++ y) grows.cut ∙ append_assoc part new y)
+          ∙ sym (append_assoc line part (new ++ y))
 
 -- a line that is told without a read: where all bytes that wait were moved to an empty line, and
 -- they were its first, the end was told
@@ -169,13 +168,6 @@ module _ {end longest : ℕ} (old left : Option (List ℕ)) {line fresh : List �
   -- there is a last line
   pub takes-last : 0 < length line → TakesShortBy end longest old (prepend_known fresh left) line
   takes-last some = record {
-    takes = at old left so_far.taken over;
+    takes = taken-last so_far.taken so_far.inside some (at-end left over);
     short = so_far.short;
   }
-    where
-      at : (old left : Option (List ℕ)) → Consumes old (prepend_known fresh left) line
-          → IsAtEnd left → TakesLineBy end old (prepend_known fresh left) line
-      at None left p over = tt
-      at (Some x) None p over = absurd p
-      at (Some x) (Some y) p over =
-          taken-last p so_far.inside some (ap (λ l. l ++ y) none ∙ over)

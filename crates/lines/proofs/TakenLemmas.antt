@@ -65,7 +65,7 @@ pub TakesLines-more : (end : ℕ) (a b c : Option (List ℕ)) (lines : List (Lis
     → TakesLinesBy end a c (lines ++ line ∷ [])
 TakesLines-more end None b c lines line p q = tt
 TakesLines-more end (Some x) None c lines line p q = absurd p
-TakesLines-more end (Some x) (Some y) None lines line p q = absurd q
+TakesLines-more end (Some x) (Some y) None lines line p q = absurd q.cut
 TakesLines-more end (Some x) (Some y) (Some z) lines line p q =
     let before = p.taken in
     let taken = q.taken in
@@ -140,7 +140,7 @@ pub IsReadToLong-from : (end : ℕ) (longest : ℕ) (read mid left : Option (Lis
     → IsReadToLongBy end longest read lines
 IsReadToLong-from end longest None mid left lines p q = tt
 IsReadToLong-from end longest (Some x) None left lines p q = absurd p
-IsReadToLong-from end longest (Some x) (Some y) None lines p q = absurd q
+IsReadToLong-from end longest (Some x) (Some y) None lines p q = absurd q.cut
 IsReadToLong-from end longest (Some x) (Some y) (Some z) lines p q =
     let some : 0 < length q.taken = omega (arith, q.long) in
     let found = lines_by-front end q.taken z q.inside some in

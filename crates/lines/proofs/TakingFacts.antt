@@ -42,7 +42,7 @@ takes_line-other takes = wrong takes.taken takes.cut takes.is_line
 
 -- what a reader has left may not become unknown at a line
 takes_line-lost : (line : List ℕ) → TakesLine (Some (codes "a\n")) None line → ⊥
-takes_line-lost line takes = takes
+takes_line-lost line takes = takes.cut
 
 -- what is left after a line that is too long was left before it
 takes_long-more : TakesLong 0 (Some []) (Some (1 ∷ [])) → ⊥
@@ -50,7 +50,7 @@ takes_long-more takes = no-front takes.taken takes.cut
 
 -- what a reader has left may not become unknown at a line that is too long
 takes_long-lost : TakesLong 0 (Some (codes "ab")) None → ⊥
-takes_long-lost takes = takes
+takes_long-lost takes = takes.cut
 
 -- a line that is short enough was taken
 takes_short-more : (line : List ℕ) → TakesShort 9 (Some []) (Some (1 ∷ [])) line → ⊥

@@ -1,7 +1,7 @@
 -- What reading one line takes, and what a program read that took one line after the other. What a
 -- reader has left is Some of the bytes, or None where it doesn't tell. A name with `by` takes first
 -- the byte that ends a line; the same name without it is the case of byte 10.
-use Rattle.std.specs.Prelude.{◌≡◌, ◌⊎◌, ℕ, ◌<◌, ◌≤◌, List, [], ◌∷◌, ◌++◌, length, take, slice_index, Bool, true, not, nat_lt, ◌||◌, All, Option, Some, None, IfSome}
+use Rattle.std.specs.Prelude.{◌≡◌, ◌⊎◌, ℕ, ◌<◌, ◌≤◌, List, [], ◌∷◌, ◌++◌, length, take, slice_index, Bool, true, not, nat_lt, ◌||◌, All, Option, Some, IfSome}
 use Rattle.std.specs.Io.KnownBytes.{Consumes, IsAtEnd, prepend_known}
 use Rattle.lines.specs.declared.reader.Next.{Next}
 use Rattle.lines.specs.declared.reader.Next.TheVariants.{End, Line, TooLong}
@@ -39,31 +39,19 @@ pub record HasEndAtBy (end : ℕ) (bytes : List ℕ) (n : ℕ) : Type 0 where
   pub ended : slice_index bytes n ≡ end
   pub inside : has_no_end_by end (take n bytes) ≡ true
 
--- from these bytes to those one line was taken, with its end or with all that was left
-pub record HasTakenLineBy (end : ℕ) (old new line : List ℕ) : Type 0 where
+-- from old to new one line was taken, with its end or with all that was left
+pub record TakesLineBy (end : ℕ) (old new : Option (List ℕ)) (line : List ℕ) : Type 0 where
   pub taken : List ℕ
-  pub cut : old ≡ taken ++ new
+  pub cut : Consumes old new taken
   pub is_line : lines_by end taken ≡ line ∷ []
-  pub last : IsEndedBy end taken ⊎ (new ≡ [])
+  pub last : IsEndedBy end taken ⊎ IsAtEnd new
 
--- one line was taken, for a reader that may not tell its bytes
-abbrev pub TakesLineBy : ℕ → Option (List ℕ) → Option (List ℕ) → List ℕ → Type 0
-TakesLineBy end None new line = Unit {0}
-TakesLineBy end (Some old) None line = ⊥
-TakesLineBy end (Some old) (Some new) line = HasTakenLineBy end old new line
-
--- from these bytes to those more bytes of one line were taken than a line may have
-pub record HasTakenLongBy (end longest : ℕ) (old new : List ℕ) : Type 0 where
+-- from old to new more bytes of one line were taken than a line may have
+pub record TakesLongBy (end longest : ℕ) (old new : Option (List ℕ)) : Type 0 where
   pub taken : List ℕ
-  pub cut : old ≡ taken ++ new
+  pub cut : Consumes old new taken
   pub inside : has_no_end_by end taken ≡ true
   pub long : longest < length taken
-
--- more of a line was taken than it may have, for a reader that may not tell its bytes
-abbrev pub TakesLongBy : ℕ → ℕ → Option (List ℕ) → Option (List ℕ) → Type 0
-TakesLongBy end longest None new = Unit {0}
-TakesLongBy end longest (Some old) None = ⊥
-TakesLongBy end longest (Some old) (Some new) = HasTakenLongBy end longest old new
 
 -- nothing is left, and nothing was taken
 pub record Ends (old new : Option (List ℕ)) : Type 0 where
@@ -71,9 +59,9 @@ pub record Ends (old new : Option (List ℕ)) : Type 0 where
   pub end : IsAtEnd new
 
 -- a line was taken that is short enough
-pub record TakesShortBy (end longest : ℕ) (old new : Option (List ℕ)) (line : List ℕ) : Type 0 where
-  pub takes : TakesLineBy end old new line
-  pub short : length line ≤ longest
+abbrev pub TakesShortBy : ℕ → ℕ → Option (List ℕ) → Option (List ℕ) → List ℕ → Type 0
+TakesShortBy end longest old new line =
+    record { takes : TakesLineBy end old new line; short : length line ≤ longest }
 
 -- each of these lines is short enough
 abbrev pub AreShort : ℕ → List (List ℕ) → Type 0
@@ -82,7 +70,8 @@ AreShort longest lines = All (λ line. length line ≤ longest) lines
 -- what the next line came to
 abbrev pub NextLineBy : ℕ → ℕ → Option (List ℕ) → Option (List ℕ) → List ℕ → Next → Type 0
 NextLineBy end longest old new line End = Ends old new
-NextLineBy end longest old new line Line = TakesShortBy end longest old new line
+NextLineBy end longest old new line Line =
+    record { takes : TakesLineBy end old new line; short : length line ≤ longest }
 NextLineBy end longest old new line TooLong = TakesLongBy end longest old new
 
 -- these are all lines of the bytes, and the reader is at its end
