@@ -91,7 +91,10 @@ fn tell_long(rt: &HostRuntime, place: &str, is_named: bool, number: u64, longest
     if is_named {
         tell(
             rt,
-            format_args!("{place}: line {number} has more than {longest} bytes: {}", ADVICE),
+            format_args!(
+                "{place}: line {number} has more than {longest} bytes: {}",
+                ADVICE
+            ),
         );
     } else {
         tell(
