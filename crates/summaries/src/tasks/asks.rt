@@ -9,7 +9,7 @@ use program_parts::{Output, Writer, first_output};
 use std::cell::Cell;
 use std::io::{BufWriter, Write};
 use std::rt::Files;
-use summaries_engine::{AnyFilter, Shelf, Stop, Wanted, ask, twice, unsaid, written};
+use summaries_engine::{AnyFilter, Shelf, Stop, Wanted, ask, is_output, twice, unsaid, written};
 
 // Asks a filter for the keys of these inputs.
 fn ask_for<R: Files + Input + Eprint + AllocGlobal, O: Write>(
@@ -79,17 +79,30 @@ fn ask_of<R: Files + Input + Eprint + AllocGlobal, W: Write + Drop>(
     }
 }
 
-/// The first word for an input that is the file that the output is written to where it lies, if one
-/// is. What is written there would be read as keys again, without end.
-pub(super) fn word_of_output<'a, R: Files>(
+// Refuses these inputs where one is the file that the output is written to where it lies.
+fn refuse_output<R: Files>(
     rt: &R,
-    matches: &ArgMatches<'a>,
     output: &Output<Writer<'_, R, R::File>>,
-) -> Option<&'a str> {
-    match first_output(rt, output, &[matches.get_str(FILTER)?]) {
-        Some(word) => Some(word),
-        None => first_output(rt, output, matches.get_strs(FILE).unwrap_or(&["-"])),
+    words: &[&str],
+) -> Result<(), Stop> {
+    match first_output(rt, output, words) {
+        Some(word) => Err(is_output(called(word))),
+        None => Ok(()),
     }
+}
+
+/// Refuses an input that is the output, too. What is written there would be read as keys again,
+/// without end.
+pub(super) fn check_inputs<R: Files>(
+    rt: &R,
+    matches: &ArgMatches,
+    output: &Output<Writer<'_, R, R::File>>,
+) -> Result<(), Stop> {
+    match matches.get_str(FILTER) {
+        Some(filter) => refuse_output(rt, output, &[filter])?,
+        None => {}
+    }
+    refuse_output(rt, output, matches.get_strs(FILE).unwrap_or(&["-"]))
 }
 
 // Asks a filter for the keys of the inputs that the words name.

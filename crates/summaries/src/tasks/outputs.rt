@@ -1,31 +1,27 @@
 //! The tasks that write an output, which may be a file.
 
-use super::asks::{run_ask, word_of_output};
+use super::asks::{check_inputs, run_ask};
 use super::builds::run_build;
 use super::run_unite;
 use crate::command_line::OUTPUT;
-use crate::key_files::called;
 use clap::ArgMatches;
 use program_parts::{Output, Writer, close, open_output};
 use std::io::Write;
 use std::os::fd::AsFd;
 use std::rt::Files;
 use std::thread::Threads;
-use summaries_engine::{Stop, is_output, unsaid, unwritten};
+use summaries_engine::{Stop, unsaid, unwritten};
 
-// Refuses an input that is the output, too. Only `ask` writes while it reads.
+// Refuses an input that is the output, where the task writes while it reads.
 fn check_output<R: Files>(
     rt: &R,
     name: &str,
     matches: &ArgMatches,
     output: &Output<Writer<'_, R, R::File>>,
 ) -> Result<(), Stop> {
-    if name != "ask" {
-        return Ok(());
-    }
-    match word_of_output(rt, matches, output) {
-        Some(word) => Err(is_output(called(word))),
-        None => Ok(()),
+    match name {
+        "ask" => check_inputs(rt, matches, output),
+        _ => Ok(()),
     }
 }
 
