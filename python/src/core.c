@@ -141,19 +141,26 @@ typedef struct memory {
     Py_ssize_t size;
 } memory;
 
-static PyObject *memory_new(PyTypeObject *type, PyObject *arguments, PyObject *names) {
-    unsigned long long num_words;
-    (void)names;
-    if (!PyArg_ParseTuple(arguments, "K", &num_words)) return NULL;
-    memory *made = (memory *)PyType_GenericAlloc(type, 0);
+static PyTypeObject *memory_type;
+
+/* memory(num_words): words that are clear, as a memoryview of bytes. */
+static PyObject *new_memory(PyObject *module, PyObject *number) {
+    unsigned long long num_words = PyLong_AsUnsignedLongLong(number);
+    (void)module;
+    if (PyErr_Occurred()) return NULL;
+    memory *made = (memory *)PyType_GenericAlloc(memory_type, 0);
     if (made == NULL) return NULL;
     if (num_words <= (PY_SSIZE_T_MAX - LINE) / 8) {
         made->size = (Py_ssize_t)(8 * num_words);
         made->block = PyMem_Calloc(8 * num_words + LINE, 1);
     }
-    if (made->block != NULL) return (PyObject *)made;
+    PyObject *view = NULL;
+    if (made->block != NULL)
+        view = PyMemoryView_FromObject((PyObject *)made);
+    else
+        PyErr_Format(PyExc_MemoryError, "no memory of %llu words", num_words);
     Py_DECREF(made);
-    return PyErr_Format(PyExc_MemoryError, "no memory of %llu words", num_words);
+    return view;
 }
 
 static int memory_lend(PyObject *self, Py_buffer *view, int flags) {
@@ -170,12 +177,9 @@ static void memory_free(PyObject *self) {
 }
 
 __extension__ static PyType_Slot memory_slots[] = {
-    {Py_tp_doc, "Memory(num_words): words that are clear, as a buffer of bytes."},
-    {Py_tp_new, memory_new},
-    {Py_bf_getbuffer, memory_lend},
-    {Py_tp_dealloc, memory_free},
-    {0, NULL}};
-static PyType_Spec memory_spec = {"fastbloom._core.Memory", sizeof(memory), 0, Py_TPFLAGS_DEFAULT,
+    {Py_bf_getbuffer, memory_lend}, {Py_tp_dealloc, memory_free}, {0, NULL}};
+static PyType_Spec memory_spec = {"fastbloom._core.Memory", sizeof(memory), 0,
+                                  Py_TPFLAGS_DEFAULT | Py_TPFLAGS_DISALLOW_INSTANTIATION,
                                   memory_slots};
 
 /* ---- Filters ---- */
@@ -883,7 +887,8 @@ static PyObject *sync_all(PyObject *module, PyObject *number) {
     Py_RETURN_NONE;
 }
 
-static PyMethodDef functions[] = {{"sync_all", sync_all, METH_O, NULL},
+static PyMethodDef functions[] = {{"memory", new_memory, METH_O, NULL},
+                                  {"sync_all", sync_all, METH_O, NULL},
                                   {"plan", plan, METH_VARARGS, NULL},
                                   {"rate_bounds", rate_bounds, METH_VARARGS, NULL},
                                   {"expected_rate", expected_rate, METH_VARARGS, NULL},
@@ -905,13 +910,11 @@ PyMODINIT_FUNC PyInit__core(void) {
     if (items == NULL) return NULL;
     plain_bytes = PyObject_GetAttrString(items, "plain_bytes");
     Py_DECREF(items);
-    PyObject *words = PyType_FromSpec(&memory_spec);
+    memory_type = (PyTypeObject *)PyType_FromSpec(&memory_spec);
     filter_type = (PyTypeObject *)PyType_FromSpec(&filter_spec);
-    if (plain_bytes != NULL && words != NULL && filter_type != NULL)
+    if (plain_bytes != NULL && memory_type != NULL && filter_type != NULL)
         module = PyModule_Create(&definition);
-    if (module != NULL && (PyModule_AddObjectRef(module, "Memory", words) ||
-                           PyModule_AddObjectRef(module, "Core", (PyObject *)filter_type)))
+    if (module != NULL && PyModule_AddObjectRef(module, "Core", (PyObject *)filter_type))
         Py_CLEAR(module);
-    Py_XDECREF(words);
     return module;
 }

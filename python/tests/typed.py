@@ -7,7 +7,7 @@ the first lines and refuses the last.
 from array import array
 from fractions import Fraction
 from pathlib import Path
-from typing import List, Optional, Tuple
+from typing import List, Optional, Tuple, Union
 
 from fastbloom import (
     AnyFilter,
@@ -97,7 +97,7 @@ def in_lines(theirs: BlockedFilter) -> Tuple[BlockedFilter, Mask]:
     return lines & theirs.copy(), lines.contains_hashes(array("Q", [1]))
 
 
-def last(names: List[str]) -> Tuple[Filter, int, float]:
+def last(names: List[str]) -> Tuple[Union[Filter, BlockedFilter], int, float]:
     seen = RotatingFilter(10, "1/1000", key=bytes(16))
     fresh = [name for name in names if not seen.add(name)]
     print(

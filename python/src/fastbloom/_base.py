@@ -92,7 +92,7 @@ class Base(_core.Core, Generic[Kind]):
             if isinstance(other, self._kind):
                 self._change(other, self._unite)
             else:
-                self._add_items(other)
+                self._add_items(other)  # type: ignore[arg-type]
 
     def contains_many(self, items: Iterable[Item]) -> list[bool]:
         """Whether each item of an iterable is contained, in their order, many by one call.

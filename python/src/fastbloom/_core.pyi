@@ -2,15 +2,9 @@
 
 from typing import Iterable, Optional, Union
 
-from typing_extensions import Buffer
-
-from ._items import Item
+from ._items import Buffer, Item
 
 _Bounds = Optional[tuple[int, int]]
-
-class Memory:
-    def __new__(cls, num_words: int, /) -> Memory: ...
-    def __buffer__(self, flags: int, /) -> memoryview: ...
 
 class Core:
     @property
@@ -61,4 +55,5 @@ def capacity(
     kind: int, num_words: int, num_hashes: int, num: int, den: int, /
 ) -> int: ...
 def read_head(kind: int, head: bytes, /) -> Union[int, tuple[int, int, bytes, int]]: ...
+def memory(num_words: int, /) -> memoryview: ...
 def sync_all(file: int, /) -> None: ...

@@ -44,7 +44,7 @@ class Plain(Base[Kind]):
     """A filter whose calls come one after the other, as `Filter` says."""
 
     __slots__ = ()
-    _new_memory = staticmethod(lambda num_words: memoryview(_core.Memory(num_words)))
+    _new_memory = staticmethod(_core.memory)
 
     def __or__(self, other: Kind) -> Self:
         """A filter of what one of the two contains. It raises as `|=`."""

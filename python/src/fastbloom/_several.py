@@ -127,8 +127,9 @@ class Several:
         the lower bound is the greatest of theirs, and the upper one their sum, at most 1.
         """
         with self._lock:
-            lows, highs = zip(*(it.exact_false_positive_rate() for it in self._filters))
-        return max(lows), min(sum(highs), Fraction(1))
+            bounds = [it.exact_false_positive_rate() for it in self._filters]
+        most = sum((high for _, high in bounds), Fraction(0))
+        return max(low for low, _ in bounds), min(most, Fraction(1))
 
     def false_positive_rate(self) -> tuple[float, float]:
         """`exact_false_positive_rate` as two floats, rounded outward."""
@@ -217,14 +218,14 @@ class GrowingFilter(Several):
     def approx_items(self) -> int:
         """How many items it took that it didn't contain. Some may have been held for others."""
         with self._lock:
-            return self._items * (2 ** (len(self._filters) - 1) - 1) + self._taken
+            return (self._items << len(self._filters) - 1) - self._items + self._taken
 
     def add_hash(self, value: int) -> bool:
         """As `add`, by the hash. One out of range raises ValueError."""
         with self._lock:
             if self.contains_hash(value):
                 return True
-            room = self._items * 2 ** (len(self._filters) - 1)
+            room = self._items << len(self._filters) - 1
             if self._taken >= room:
                 newest, rate = self._filters[-1], self._rate / 2
                 made = type(newest)(2 * room, rate, newest.key)
