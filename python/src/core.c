@@ -251,23 +251,14 @@ static PyObject *filter_release(PyObject *self, PyObject *view) {
     Py_RETURN_NONE;
 }
 
-static int filter_traverse(PyObject *self, visitproc visit, void *arg) {
-    Py_VISIT(Py_TYPE(self));
-    Py_VISIT(((filter *)self)->view);
-    Py_VISIT(((filter *)self)->buffer.obj);
-    return 0;
-}
-
-static int filter_clear(PyObject *self) {
-    take_view((filter *)self, NULL);
-    return 0;
-}
-
+/* It isn't followed by the collector of rings, which would release the view before the buffer. */
 static void filter_free(PyObject *self) {
     PyTypeObject *type = Py_TYPE(self);
-    PyObject_GC_UnTrack(self);
-    filter_clear(self);
-    PyObject_GC_Del(self);
+    void *slot = PyType_GetSlot(type, Py_tp_free); /* that of a class below may differ */
+    freefunc let_go;
+    memcpy(&let_go, &slot, sizeof let_go);
+    take_view((filter *)self, NULL);
+    let_go(self);
     Py_DECREF(type);
 }
 
@@ -800,16 +791,13 @@ static PyMethodDef filter_methods[] = {
     {NULL, NULL, 0, NULL}};
 
 __extension__ static PyType_Slot filter_slots[] = {{Py_tp_doc, "What all kinds of filters have."},
-                                                   {Py_tp_traverse, filter_traverse},
-                                                   {Py_tp_clear, filter_clear},
                                                    {Py_tp_dealloc, filter_free},
                                                    {Py_tp_methods, filter_methods},
                                                    {Py_tp_getset, filter_fields},
                                                    {Py_sq_contains, filter_contains},
                                                    {0, NULL}};
 static PyType_Spec filter_spec = {"fastbloom._core.Core", sizeof(filter), 0,
-                                  Py_TPFLAGS_DEFAULT | Py_TPFLAGS_BASETYPE | Py_TPFLAGS_HAVE_GC,
-                                  filter_slots};
+                                  Py_TPFLAGS_DEFAULT | Py_TPFLAGS_BASETYPE, filter_slots};
 
 /* ---- What is asked of sizes and heads: a reason as its number, or what was asked for ---- */
 

@@ -3,14 +3,18 @@
 import array
 import copy
 import ctypes
+import gc
 import inspect
 import mmap
 import pickle
 import random
+import sys
 import typing
 import unittest
+import weakref
 from decimal import Decimal, localcontext
 from fractions import Fraction
+from unittest import mock
 
 import fastbloom
 from fastbloom import Estimate, Filter, Refusal
@@ -521,6 +525,19 @@ class Types(unittest.TestCase):
             typing.get_type_hints(call)
         self.assertEqual(typing.get_type_hints(Filter.contains_many)["return"], list[bool])
         self.assertEqual(str(inspect.signature(Filter.add)), "(self, item, /)")
+
+
+class Rings(unittest.TestCase):
+    def test_a_filter_in_a_ring_is_collected(self):
+        raised, gone = [], []
+        with mock.patch.object(sys, "unraisablehook", raised.append):
+            for _ in range(3):
+                made = Named("crab")
+                made.me, made.words_of_me = made, made.view()
+                weakref.finalize(made, gone.append, True)
+                del made
+            gc.collect()
+        self.assertEqual((raised, len(gone)), ([], 3))
 
 
 class Sets(unittest.TestCase):
