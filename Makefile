@@ -22,8 +22,9 @@ zshdir = $(datadir)/zsh/site-functions
 fishdir = $(datadir)/fish/vendor_completions.d
 SHORT_NAMES = yes  # each program by its short name, too: common words, so a system may do without
 
-# The Python package goes where this Python looks below the prefix.
-PYTHON = python3
+# The Python package goes where this Python looks below the prefix: the first that can build it.
+PYTHON := $(or $(shell for it in python3 /usr/bin/python3; do \
+  "$$it" -c 'import setuptools, wheel' 2> /dev/null && echo "$$it" && break; done),python3)
 pythondir := $(shell command -v '$(PYTHON)' > /dev/null && $(PYTHON) -c "import site, sys; \
   below, all = '$(prefix)/lib/', [site.getusersitepackages(), *site.getsitepackages()]; \
   usual = below + 'python%d.%d/site-packages' % sys.version_info[:2]; \
