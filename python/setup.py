@@ -33,7 +33,7 @@ setup(
             include_dirs=[str(LIBRARY / "include"), str(LIBRARY.parent / "include")],
             depends=[str(LIBRARY / "libfastbloom_c.a")],
             extra_objects=[str(LIBRARY / "libfastbloom_c.a")],
-            extra_compile_args=["-std=c11", "-O2", "-fvisibility=hidden"],
+            extra_compile_args=["-std=c11", "-O2", "-g0", "-fvisibility=hidden"],
             extra_link_args=["-Wl,--exclude-libs,ALL,--gc-sections,-z,relro,-z,now"],
             py_limited_api=True,
         )
