@@ -1,6 +1,7 @@
 //! Blocked filters: drawn sessions, the same calls on both kinds, and threads.
 
 mod sessions;
+mod takes;
 mod threads;
 
 use crate::telling::tell_row;
@@ -103,6 +104,14 @@ fn meet(pair: &mut Pair, other: &Pair) -> bool {
     are_united & are_alike(pair)
 }
 
+// Whether both tell the same, and stay as they are.
+fn tell_the_same(pair: &Pair) -> bool {
+    let Pair { plain, shared } = pair;
+    (plain.count_ones() == shared.count_ones())
+        & (plain.false_pos_now() == shared.false_pos_now())
+        & are_alike(pair)
+}
+
 // Whether both are cleared, and the copy of a filter stays as it is.
 fn are_cleared(pair: &mut Pair, copy: &BlockedBloomFilter) -> bool {
     let is_copied = pair.plain == *copy;
@@ -114,6 +123,7 @@ fn are_cleared(pair: &mut Pair, copy: &BlockedBloomFilter) -> bool {
 // Whether all this holds of a pair beside another.
 fn agree(alloc: Global, pair: &mut Pair, other: &mut Pair) -> bool {
     let are_met = take_items(pair) & meet(pair, other) & take_items(other) & meet(pair, other);
+    let are_met = are_met & tell_the_same(pair);
     match pair.plain.try_clone(alloc) {
         Ok(copy) => are_met & are_cleared(pair, &copy) & meet(pair, other),
         Err(_refusal) => false,

@@ -8,12 +8,14 @@ use std::sync::Arc;
 use std::sync::atomic::{AtomicU64, Ordering};
 use std::thread::{Threads, yield_now};
 
-/// A gate that counts the workers, and keeps a bit for the number of each of the first 64. Each of
-/// these looks for those that are awaited, for at most 10,000,000 turns.
+/// A gate that counts the workers, adds up the squares of their numbers, and keeps a bit for the
+/// number of each of the first 64. Each of these looks for those that are awaited, for at most
+/// 10,000,000 turns.
 #[derive(Drop)]
 pub(crate) struct Watching {
     pub(crate) awaited: u64,
     pub(crate) passes: AtomicU64,
+    pub(crate) squares: AtomicU64,
     pub(crate) numbers: AtomicU64,
     pub(crate) met: AtomicU64,
 }
@@ -32,6 +34,7 @@ pub(crate) fn gate_for(workers: usize) -> Watching {
     Watching {
         awaited: bits_below(workers),
         passes: AtomicU64::new(0),
+        squares: AtomicU64::new(0),
         numbers: AtomicU64::new(0),
         met: AtomicU64::new(0),
     }
@@ -43,6 +46,8 @@ pub(crate) fn gate_for(workers: usize) -> Watching {
 impl Gate for Watching {
     fn pass(&self, worker: usize) {
         self.passes.fetch_add(1, Ordering::SeqCst);
+        let square = (worker as u64).wrapping_mul(worker as u64);
+        self.squares.fetch_add(square, Ordering::SeqCst);
         if worker >= 64 {
             return;
         }
@@ -70,7 +75,12 @@ pub(crate) fn gate_of(alloc: Global, workers: usize) -> Result<Seen, FilterError
 // Whether this many workers passed a gate once each, by their numbers, and the first 64 while all
 // of these ran.
 fn saw_all(seen: &Watching, count: usize) -> bool {
+    let mut squares = 0u64;
+    for number in 0..count as u64 {
+        squares = squares.wrapping_add(number.wrapping_mul(number));
+    }
     (seen.passes.load(Ordering::SeqCst) == count as u64)
+        & (seen.squares.load(Ordering::SeqCst) == squares)
         & (seen.numbers.load(Ordering::SeqCst) == bits_below(count))
         & (seen.met.load(Ordering::SeqCst) == count.min(64) as u64)
 }
@@ -161,11 +171,11 @@ fn parts_fill_a_filter_however_they_are_cut(rt: HostRuntime) {
     }
 }
 
-// A hundred parts of a thousand hashes each.
-fn hundred(alloc: Global) -> Result<Vec<Vec<u64>>, FilterError> {
+// Two hundred parts of five hundred hashes each.
+fn two_hundred(alloc: Global) -> Result<Vec<Vec<u64>>, FilterError> {
     let mut parts = Vec::new(alloc);
-    for part in 0..100u64 {
-        parts.push(spread_from(alloc, part * 1000, part * 1000 + 1000)?)?;
+    for part in 0..200u64 {
+        parts.push(spread_from(alloc, part * 500, part * 500 + 500)?)?;
     }
     Ok(parts)
 }
@@ -187,25 +197,25 @@ fn is_made_alone(alloc: Global, filled: &BloomFilter) -> bool {
     }
 }
 
-// The filter that a hundred workers make, and whether each passed the gate.
-fn filter_of_hundred<R: Threads>(
+// The filter that two hundred workers make, and whether each passed the gate.
+fn filter_of_two_hundred<R: Threads>(
     rt: &R,
     alloc: Global,
 ) -> Result<(BloomFilter, bool), FilterError> {
     let shape = Shape::new(1 << 20, 7)?;
-    filled(rt, alloc, shape, hundred(alloc)?)
+    filled(rt, alloc, shape, two_hundred(alloc)?)
 }
 
-// Whether a hundred workers make the filter of one thread.
+// Whether two hundred workers make the filter of one thread.
 fn is_made_alike<R: Threads>(rt: &R, alloc: Global) -> bool {
-    match filter_of_hundred(rt, alloc) {
+    match filter_of_two_hundred(rt, alloc) {
         Ok((filter, is_seen)) => is_seen & is_made_alone(alloc, &filter),
         Err(_refusal) => false,
     }
 }
 
 #[test]
-fn a_hundred_workers_make_the_filter_of_one_thread(rt: HostRuntime) {
+fn two_hundred_workers_make_the_filter_of_one_thread(rt: HostRuntime) {
     assert!(rt; is_made_alike(&rt, rt.alloc()));
 }
 

@@ -6,12 +6,15 @@
 //!   (`answers`, and `memory` for those that take some), and compares all words after each.
 //! - `hashing`, `numbers`, `steps`: hashers, arithmetic and word steps at values from outside, or
 //!   worked out by hand.
+//! - `recorded`: calls on words that threads share, over words that write every operation down.
 //! - `concrete`: generic calls at concrete types.
 //! - `nothing`, `overstated`: a hasher and an iterator that are odd.
 //! - `blocked`, `growing`, `rotating`, `seated`, `fills`, `files`: one kind of filter, or its
 //!   files.
+//! - `between`: an iterator that clears the filter into which its items go.
 //! - `threads`: threads that share a filter.
 //! - `room`: requests for memory refused, one or all, by `dev/starve`.
+//! - `long`: lines of which each byte comes and goes alone.
 //! - `engines`: the programs' engines over readers, writers and sieves that fail or are odd.
 //! - `texts`: the texts of all errors.
 //! - `used`: the examples of the pages.
@@ -33,6 +36,8 @@ macro_rules! scripted_test {
 #[cfg(test)]
 mod answers;
 #[cfg(test)]
+mod between;
+#[cfg(test)]
 mod blocked;
 #[cfg(test)]
 mod concrete;
@@ -51,6 +56,8 @@ mod growing;
 #[cfg(test)]
 mod hashing;
 #[cfg(test)]
+mod long;
+#[cfg(test)]
 mod making;
 #[cfg(test)]
 mod memory;
@@ -60,6 +67,8 @@ mod nothing;
 mod numbers;
 #[cfg(test)]
 mod overstated;
+#[cfg(test)]
+mod recorded;
 #[cfg(test)]
 mod room;
 #[cfg(test)]
