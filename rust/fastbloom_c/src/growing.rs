@@ -17,7 +17,8 @@ macro_rules! growing_filter {
         /// ```
         #[doc = concat!("use fastbloom_c::{Error, ", stringify!($growing), ", Rate};")]
         ///
-        /// let rate = Rate::new(1, 1_000_000)?; // at first for two items
+        /// let rate = Rate::new(1, 1_000_000)?;
+        /// // For two items at first.
         #[doc = concat!("let mut seen = ", stringify!($growing), "::new(rate, 2)?;")]
         /// for name in ["crab", "lobster", "crab", "ray", "eel"] {
         ///     seen.insert(name)?;
