@@ -14,11 +14,11 @@ aren't blocked don't read the files of those that are, nor the other way round. 
 the shared library fastbloom_c; importing the package raises ImportError where that isn't found.
 """
 
+from ._base import AnyFilter
 from ._blocked import BlockedFilter
 from ._checks import Estimate, Refusal
 from ._filter import Filter
 from ._mask import Mask
-from ._protocols import AnyFilter
 from ._several import GrowingFilter, RotatingFilter
 from ._shared import SharedBlockedFilter, SharedFilter
 
