@@ -4,8 +4,7 @@ from __future__ import annotations
 
 from fractions import Fraction
 
-from . import _core
-from ._base import Base, Kind, fractions_of
+from ._base import CLASSICAL, Base, Kind, fractions_of
 from ._checks import number_of_items
 from ._plain import Plain
 
@@ -22,8 +21,7 @@ class Words(Base[Kind]):
         The formula is a little below the mean rate: see `exact_expected_false_positive_rate`. The
         bounds are proved, and are fractions of 2^63. It raises as that.
         """
-        shape = self.num_words, self.num_hashes, number_of_items(items)
-        return fractions_of(_core.expected_rate(*shape))
+        return fractions_of(self._bounds(CLASSICAL, number_of_items(items)))
 
 
 class Filter(Words["Filter"], Plain["Filter"]):

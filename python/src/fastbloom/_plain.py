@@ -4,10 +4,10 @@ from __future__ import annotations
 
 import copy
 import pickle
-from typing import Any, BinaryIO, Iterable, Self, TypeVar, Union
+from typing import Any, BinaryIO, Iterable, Optional, Self, TypeVar, Union
 
 from . import _core
-from ._base import Base, Kind
+from ._base import EQUAL, INTERSECT, Base, Kind
 from ._checks import (
     CUT,
     HEAD,
@@ -25,19 +25,27 @@ from ._items import Buffer, Item, plain_bytes
 _Plain = TypeVar("_Plain", bound="Plain[Any]")
 
 
-def _restored(cls: type[_Plain], data: bytes) -> _Plain:
+def _restored(cls: type[_Plain], data: bytes, items: Optional[int] = None) -> _Plain:
     """The filter that was pickled as a file."""
-    return cls.from_bytes(data, max_hashes=None)
+    read = cls.from_bytes(data, max_hashes=None)
+    read._items = items
+    return read
 
 
-def _restored_words(cls: type[_Plain], num_hashes: int, key: bytes, words: Buffer) -> _Plain:
+def _restored_words(
+    cls: type[_Plain],
+    num_hashes: int,
+    key: bytes,
+    words: Buffer,
+    items: Optional[int] = None,
+) -> _Plain:
     """The filter that was pickled as words, which are copied: they may be another filter's."""
     with memoryview(words).cast("B") as data:
         if not data.nbytes or data.nbytes % cls._unit:
             raise ValueError(f"words are of {cls._unit} bytes")
         view = cls._new_memory(data.nbytes // 8)
         view[:] = data
-    return cls._of(view, number_of_hashes(num_hashes), key)
+    return cls._of(view, number_of_hashes(num_hashes), key, items)
 
 
 class Plain(Base[Kind]):
@@ -75,7 +83,7 @@ class Plain(Base[Kind]):
         for other in others:
             self._check_other(other)
         for fitting in list(map(self._as_filter, others)):
-            self._change(fitting, self._intersect)
+            self._change(fitting, INTERSECT)
 
     def _as_filter(self, other: Any) -> Any:
         """A filter, or that of items, with as many words and hashes as this one, and its key."""
@@ -90,7 +98,7 @@ class Plain(Base[Kind]):
         if not isinstance(other, self._kind):
             return NotImplemented
         alike = (self.num_hashes, self.key) == (other.num_hashes, other.key)
-        return alike and self._equal(other)
+        return alike and self._with(EQUAL, other)
 
     __hash__ = None  # type: ignore[assignment]
 
@@ -100,7 +108,7 @@ class Plain(Base[Kind]):
     def _copy(self) -> Self:
         view = self._new_memory(self.num_words)
         view[:] = self._view
-        return self._of(view, self.num_hashes, self.key)
+        return self._of(view, self.num_hashes, self.key, self.items)
 
     def copy(self) -> Self:
         """A filter with words of its own, which are equal to these."""
@@ -118,7 +126,7 @@ class Plain(Base[Kind]):
 
     def __reduce__(self) -> tuple[Any, ...]:
         """Pickles the bytes of the file, which have the key, and what a subclass adds."""
-        return _restored, (type(self), self.to_bytes()), state_of(self)
+        return _restored, (type(self), self.to_bytes(), self.items), state_of(self)
 
     def __reduce_ex__(self, protocol: Any) -> Any:
         """From protocol 5 on it hands out the words themselves, which `buffer_callback` may take.
@@ -128,7 +136,7 @@ class Plain(Base[Kind]):
         if protocol < 5 or type(self).__reduce__ is not Plain.__reduce__:
             return self.__reduce__()
         words = pickle.PickleBuffer(self._view.toreadonly())
-        made = type(self), self.num_hashes, self.key, words
+        made = type(self), self.num_hashes, self.key, words, self.items
         return _restored_words, made, state_of(self)
 
     def __sizeof__(self) -> int:
@@ -219,6 +227,6 @@ class Plain(Base[Kind]):
     def _read(cls, view: memoryview, num_hashes: int, key: bytes, seal: int) -> Self:
         """The filter of the words of a file, unless its seal is that of other ones."""
         read = cls._of(view, num_hashes, key)
-        if seal and seal != read._seal(True):
+        if seal and seal != read._seal():
             raise Refusal(SEAL)
         return read
