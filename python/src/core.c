@@ -34,8 +34,8 @@ static uint64_t none[LINE / sizeof(uint64_t)];
 /* The package's function for the bytes of what is neither a text nor bytes. */
 static PyObject *plain_bytes;
 
-/* The library's calls on the hashes of one kind of filters. Plain words are handed over in the form of
- * shared ones. */
+/* The library's calls on the hashes of one kind of filters. Plain words are handed over in the form
+ * of shared ones. */
 typedef struct calls {
     bool (*insert_hash)(fastbloom_shared, uint32_t, uint64_t);
     bool (*contains_hash)(fastbloom_shared, uint32_t, uint64_t);
