@@ -352,7 +352,7 @@ static void end(use *of) {
 /* What is done with hashes: they are added, looked up, or added so that the new ones are told. */
 enum { ADD, LOOK_UP, TELL_NEW };
 
-/* Does it, and tells of each hash by a bit. Without words it keeps none, and all bits stay clear. */
+/* Does it, and tells of each hash by a bit. Without words it keeps none, and sets no bit. */
 static int use_hashes(const filter *it, unsigned what, const uint64_t *hashes, size_t count,
                       uint64_t *bits) {
     const calls *call = it->call;
