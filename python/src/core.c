@@ -34,8 +34,8 @@ static uint64_t none[LINE / sizeof(uint64_t)];
 /* The package's function for the bytes of what is neither a text nor bytes. */
 static PyObject *plain_bytes;
 
-/* The library's calls on the hashes of one kind of filters. Plain words are handed over in the form of
- * shared ones. */
+/* The library's calls on the hashes of one kind of filters. Plain words are handed over in the form
+ * of shared ones. */
 typedef struct calls {
     bool (*insert_hash)(fastbloom_shared, uint32_t, uint64_t);
     bool (*contains_hash)(fastbloom_shared, uint32_t, uint64_t);
@@ -352,7 +352,7 @@ static void end(use *of) {
 /* What is done with hashes: they are added, looked up, or added so that the new ones are told. */
 enum { ADD, LOOK_UP, TELL_NEW };
 
-/* Does it, and tells of each hash by a bit. A filter without words keeps none, and all bits stay. */
+/* Does it, and tells of each hash by a bit. Without words it keeps none, and sets no bit. */
 static int use_hashes(const filter *it, unsigned what, const uint64_t *hashes, size_t count,
                       uint64_t *bits) {
     const calls *call = it->call;
@@ -433,8 +433,8 @@ static int take_hashes(PyObject *from, Py_buffer *lent, uint64_t **copy) {
     return -1;
 }
 
-/* _use_hashes(what, hashes): makes a call on the hashes in a buffer. Where it tells of each by a bit,
- * the result is the bytes of these, and how many hashes there are. */
+/* _use_hashes(what, hashes): makes a call on the hashes in a buffer. Where it tells of each by a
+ * bit, the result is the bytes of these, and how many hashes there are. */
 static PyObject *filter_use_hashes(PyObject *self, PyObject *arguments) {
     const filter *it = (filter *)self;
     PyObject *from, *told = NULL;

@@ -15,10 +15,9 @@ files of those that are, nor the other way round.
 """
 
 from ._base import AnyFilter
-from ._blocked import BlockedFilter
 from ._checks import Estimate, Refusal
-from ._filter import Filter
 from ._mask import Mask
+from ._plain import BlockedFilter, Filter
 from ._several import GrowingFilter, RotatingFilter
 from ._shared import SharedBlockedFilter, SharedFilter
 

@@ -20,7 +20,6 @@ from . import _core
 from ._checks import Estimate, number_of_items, rate_parts, unless_refused
 from ._items import Buffer, Item, Rate, check_many, plain_bytes
 from ._mask import Mask
-from ._rates import rounded_outward
 
 Kind = TypeVar("Kind", bound="Base[Any]")  # the class of the filters that one takes in
 
@@ -29,12 +28,24 @@ BLOCKED, SHARED = 1, 2  # what the number of a kind has, beside 0
 ADD, LOOK_UP, TELL_NEW = range(3)
 UNITE, INTERSECT, IS_PART, EQUAL, TAKE, LOAD = range(6)
 RATE, ITEMS, MEAN, CLASSICAL, UNION, COMMON, PART = range(7)
+_DIGITS = 53  # how many binary digits a float has
 
 
 def fractions_of(bounds: Any) -> tuple[Fraction, Fraction]:
     """Two bounds of a rate, in units of 2^63. A number is the reason why there are none."""
     low, high = unless_refused(bounds)
     return Fraction(low, 2**63), Fraction(high, 2**63)
+
+
+def _units(rate: Fraction) -> int:
+    return rate.numerator * (2**63 // rate.denominator)
+
+
+def rounded_outward(bounds: tuple[Fraction, Fraction]) -> tuple[float, float]:
+    """The greatest float not above the lower bound, and the least not below the upper one."""
+    low, high = map(_units, bounds)
+    down, up = max(0, low.bit_length() - _DIGITS), max(0, high.bit_length() - _DIGITS)
+    return math.ldexp(low >> down, down - 63), math.ldexp(-(-high >> up), up - 63)
 
 
 def estimate_of(bounds: Any) -> Estimate:
@@ -321,3 +332,30 @@ class Base(AnyFilter, Generic[Kind]):
     def __gt__(self, other: Kind) -> bool:
         """As `issuperset`, of filters that aren't equal."""
         return self >= other and not self <= other
+
+
+class Words(Base[Kind]):
+    """What a filter has whose bits of one item lie in any of its words."""
+
+    __slots__ = ()
+    _unit = 8
+
+    def expected_rate(self, items: int) -> tuple[Fraction, Fraction]:
+        """Two bounds of the classical formula of the rate, once it has this many items.
+
+        The formula is a little below the mean rate: see `exact_expected_false_positive_rate`. The
+        bounds are proved, and are fractions of 2^63. It raises as that.
+        """
+        return fractions_of(self._bounds(CLASSICAL, number_of_items(items)))
+
+
+class Lines(Base[Kind]):
+    """What a filter has whose bits of one item lie in one line of the cache."""
+
+    __slots__ = ()
+    _unit = 64
+
+    @property
+    def num_lines(self) -> int:
+        """The number of lines of 512 bits."""
+        return self.num_words // 8

@@ -5,21 +5,12 @@ from __future__ import annotations
 import mmap
 from typing import Any, ClassVar, Generic, NoReturn, Self, TypeVar
 
-from ._base import BLOCKED, LOAD, SHARED, TAKE, Base, Kind
-from ._blocked import BlockedFilter, Lines
-from ._checks import (
-    EMPTY_WORDS,
-    HEAD,
-    TOO_MANY_WORDS,
-    Limit,
-    Refusal,
-    check_file,
-    number_of_hashes,
-)
+from ._base import BLOCKED, LOAD, SHARED, TAKE, Base, Kind, Lines, Words
+from ._checks import EMPTY_WORDS, HEAD, TOO_MANY_WORDS, Limit, Refusal
+from ._checks import check_file, number_of_hashes
 from ._files import Path, map_file, open_regular, shared_memory, size_of
-from ._filter import Filter, Words
 from ._items import Buffer
-from ._plain import Plain
+from ._plain import BlockedFilter, Filter, Plain
 
 OfWords = TypeVar("OfWords", bound=Plain[Any])  # what is taken out
 
