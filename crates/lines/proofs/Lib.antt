@@ -1,5 +1,6 @@
 mod EndFacts
 mod FillingFacts
+mod FirstEndLemmas
 mod LineFacts
 pub mod LineLemmas
 mod LosingFacts

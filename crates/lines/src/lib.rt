@@ -14,6 +14,7 @@ mod reads;
 mod reason;
 mod writer;
 
+pub use piece::first_end;
 pub use reader::{LineReader, LineReaderBy, Next};
 pub use reads::{read_full, read_some};
 pub use reason::Reason;

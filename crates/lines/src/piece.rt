@@ -5,6 +5,7 @@ ghost use Rattle.lines.specs.Pieces.{MovesPiece};
 ghost use Rattle.lines.specs.Reading.{HasEndAtBy};
 
 use crate::block::Block;
+use memchr::memchr;
 use std::io;
 
 /// What came of moving waiting bytes to a line.
@@ -49,16 +50,11 @@ pub fn move_piece<const END: u8>(
     }
 }
 
-// Where the first line ends, if its end is among the bytes.
-fn first_end<const END: u8>(bytes: &[u8]) -> Option<usize>
+/// Where the first line ends, if its end is among the bytes.
+pub fn first_end<const END: u8>(bytes: &[u8]) -> Option<usize>
     ensures { MatchOption result (has_no_end_by END bytes.now ≡ true) (HasEndAtBy END bytes.now) }
 {
-    'bytes: for (at, byte) in bytes.iter().enumerate() {
-        if *byte == END {
-            return Some(at);
-        }
-    }
-    None
+    memchr(END, bytes)
 }
 
 /// Whether one of the bytes ends a line.

@@ -75,6 +75,13 @@ impl<const END: u8> LineReaderBy<END> {
         self.line.as_slice()
     }
 
+    /// The bytes that were read and wait, of lines that come.
+    pub fn waiting(&self) -> &[u8]
+        ensures { result.now ≡ self.now.bytes }
+    {
+        self.block.as_slice()
+    }
+
     /// Whether the next line is told without a read: its end waits, or more bytes than a line may
     /// have, or the input has ended.
     pub fn has_next(&self) -> bool

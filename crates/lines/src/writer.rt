@@ -21,6 +21,7 @@ pub fn put_line<W: Write>(output: &mut W, line: &[u8]) -> io::Result<()>
 /// Writes a line and the byte that ends it.
 ///
 /// An interrupted write is tried again. After an error a beginning of both was written.
+#[inline(always)]
 pub fn put_line_by<W: Write>(output: &mut W, line: &[u8], end: u8) -> io::Result<()>
     ensures whole { OnOk result
         (Appends (W.contents output.old) (W.contents output.new) (line.now ++ end ∷ [])) }
@@ -34,6 +35,7 @@ pub fn put_line_by<W: Write>(output: &mut W, line: &[u8], end: u8) -> io::Result
 /// Writes bytes. Of what was written before an error std's `write_all` says nothing.
 ///
 /// An interrupted write is tried again. After an error a beginning of the bytes was written.
+#[inline(always)]
 pub fn put_bytes<W: Write>(output: &mut W, text: &[u8]) -> io::Result<()>
     ensures whole { OnOk result
         (Appends (W.contents output.old) (W.contents output.new) text.now) }
@@ -52,6 +54,7 @@ pub fn put_bytes<W: Write>(output: &mut W, text: &[u8]) -> io::Result<()>
 }
 
 // Writes some of a text, and gives the number of its bytes: none where the write was interrupted.
+#[inline(always)]
 fn put_some<W: Write>(output: &mut W, text: &[u8]) -> io::Result<usize>
     ensures bound { IfOk result (λ count. count ≤ length text.now) }
     ensures some { IfOk result
