@@ -1,6 +1,7 @@
 //! Filters of keys over odd readers and writers.
 mod odd;
 mod rows;
+mod texts;
 
 ghost use Rattle.std.specs.Prelude.{IfOk};
 ghost use Rattle.summaries_engine.specs.Answers.{IsKeyed};

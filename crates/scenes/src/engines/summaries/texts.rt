@@ -1,0 +1,53 @@
+//! JSON texts of small and large filters.
+use crate::telling::tell_row;
+use fastbloom::{BloomFilter, FilterError};
+use std::alloc::{AllocError, Global};
+use summaries_engine::{AnyFilter, Form, load};
+
+// The text of a filter whose words are 1 to 8, this many times.
+fn text_of(alloc: Global, times: usize) -> Result<Vec<u8>, AllocError> {
+    let mut text = b"{\"bits\":{\"bits\":[1".to_vec(alloc)?;
+    for time in 0..times {
+        let rest: &[u8] = if time > 0 { b",1" } else { b"" };
+        text.extend_from_slice(rest)?;
+        text.extend_from_slice(b",2,3,4,5,6,7,8")?;
+    }
+    text.extend_from_slice(b"]},\"num_hashes_minus_one\":1,\"k0\":0,\"k1\":0}")?;
+    Ok(text)
+}
+
+// That filter.
+fn filter_of(alloc: Global, times: usize) -> Result<BloomFilter, FilterError> {
+    let mut words = Vec::new(alloc);
+    for _ in 0..times {
+        words.extend_from_slice(&[1u64, 2, 3, 4, 5, 6, 7, 8])?;
+    }
+    Ok(BloomFilter::from_vec(words)?.hashes(2))
+}
+
+// Whether a filter is read from a text, with each of its words.
+fn is_read(alloc: Global, text: &[u8], filter: &BloomFilter) -> bool {
+    let mut rest = text;
+    match load(alloc, "text", 64, &mut rest) {
+        Ok((AnyFilter::Classic(back), form)) => (form == Form::Json) & (back == *filter),
+        Ok((AnyFilter::Blocked(_), _form)) => false,
+        Err(_stop) => false,
+    }
+}
+
+// Whether the filter is read from its text.
+fn comes_back(alloc: Global, times: usize) -> bool {
+    match (text_of(alloc, times), filter_of(alloc, times)) {
+        (Ok(text), Ok(filter)) => is_read(alloc, text.as_slice(), &filter),
+        (Ok(_text), Err(_refusal)) => false,
+        (Err(_refused), _filter) => false,
+    }
+}
+
+// Of eight words, of 65,536 and of 2^20, which are more than a million.
+#[test]
+fn filters_are_read_from_their_texts(rt: HostRuntime) {
+    for times in [1, 8192, 131_072] {
+        assert!(rt; tell_row(&rt, times, comes_back(rt.alloc(), times)));
+    }
+}
