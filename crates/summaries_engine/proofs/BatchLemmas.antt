@@ -109,11 +109,11 @@ common-hash f (b ∷ before) key later (k ∷ keys) others same low =
     common-hash f before key later keys others rest (omega (arith, low))
 
 -- the hash that is next is that of the next key
-pub next-hash : {f : AnyFilter} {end : ℕ} {bytes rest hashes : List ℕ} {keys : List (List ℕ)}
+pub next-hash : (f : AnyFilter) {end : ℕ} {bytes rest hashes : List ℕ} {keys : List (List ℕ)}
     {key others : List ℕ} → HashesSome f end bytes hashes → CutsKeys end bytes rest keys
     → CutsKey end rest key others → (n : ℕ) → n ≡ length keys → n < length hashes
     → get_or hashes n 0 ≡ hash_in f key
-next-hash {f = f} {end = end} {rest = rest} {hashes = hashes} {keys = keys} {key = key}
+next-hash f {end = end} {rest = rest} {hashes = hashes} {keys = keys} {key = key}
     {others = others} (last, are) so_far next n counted low =
     let lines : lines_by end rest ≡ key ∷ lines_by end others =
     ap (lines_by end) next.cut ∙ lines_by-ended end key others next.inside in
@@ -124,13 +124,13 @@ next-hash {f = f} {end = end} {rest = rest} {hashes = hashes} {keys = keys} {key
     (omega (arith, low, counted, ap length are.hashed))
 
 -- so its bit tells whether the next key is contained
-pub found-is : {f : AnyFilter} {end : ℕ} {bytes rest hashes bits : List ℕ} {keys : List (List ℕ)}
+pub found-is : (f : AnyFilter) (bits : List ℕ) {end : ℕ} {bytes rest hashes : List ℕ} {keys : List (List ℕ)}
     {key others : List ℕ} → TellsEach f hashes bits → HashesSome f end bytes hashes
     → CutsKeys end bytes rest keys → CutsKey end rest key others → (n : ℕ) → n ≡ length keys
     → n < length hashes → content bits n ≡ has_hash f (hash_in f key)
-found-is {f = f} {hashes = hashes} tells are so_far next n counted low =
+found-is f bits {hashes = hashes} tells are so_far next n counted low =
     tells n ∙ ap (λ b. b && has_hash f (get_or hashes n 0)) (lt-ltb n (length hashes) low)
-    ∙ ap (has_hash f) (next-hash are so_far next n counted low)
+    ∙ ap (has_hash f) (next-hash f are so_far next n counted low)
 
 -- behind a key there are fewer bytes
 pub cut-fewer : {end : ℕ} {bytes key rest : List ℕ} → CutsKey end bytes key rest
@@ -143,11 +143,12 @@ pub hashes-none : (k0 k1 end : ℕ) (bytes : List ℕ) → HashesFirst k0 k1 end
 hashes-none k0 k1 end bytes = record { keys = []; cuts = cuts-none end bytes; hashed = refl }
 
 -- one key more was hashed
-pub hashes-more : {k0 k1 end : ℕ} {bytes rest hashes : List ℕ} {key others : List ℕ} (n : ℕ)
+pub hashes-more : {k0 k1 end : ℕ} {bytes rest : List ℕ} (hashes : List ℕ) {key others : List ℕ}
+    (n : ℕ)
     → HashesFirst k0 k1 end bytes rest (take n hashes) → CutsKey end rest key others
     → n < length hashes → (hash : ℕ) → hash ≡ sip k0 k1 key
     → HashesFirst k0 k1 end bytes others (take (n + 1) (set hashes n hash))
-hashes-more {k0 = k0} {k1 = k1} {hashes = hashes} {key = key} n so_far next low hash is =
+hashes-more {k0 = k0} {k1 = k1} hashes {key = key} n so_far next low hash is =
     let one : n + 1 ≡ suc n = omega arith in
     record {
       keys = so_far.keys ++ key ∷ [];
@@ -313,17 +314,17 @@ module _ {f : AnyFilter} {wanted : Wanted} {end : ℕ} {read left from to more :
 
 -- the keys that waited were hashed, and the hashes taken
 pub taking-batch : {F : Type 0} {took : F → List ℕ → F → Type 0} {key : ℕ × ℕ} {end : ℕ}
-    {read left : Option (List ℕ)} {old : Waiting} {number : ℕ} {from now then : F}
+    {read left : Option (List ℕ)} {old : Waiting} {number : ℕ} {from now later : F}
     {waited waits more : List ℕ}
     → IsTaking took key end read old left number from now waited waits → (new : Waiting) (n : ℕ)
     (hashes : List ℕ) → HashesFirst key.0 key.1 end old.bytes new.bytes hashes
     → n ≡ length hashes
     → ((first : F) (before : List ℕ) → HasTaken took first now waits before
-    → HasTaken took first then more (before ++ hashes))
+    → HasTaken took first later more (before ++ hashes))
     → new.ended ≡ old.ended → new.longest ≡ old.longest
-    → IsTaking took key end read new left (number + n) from then waited more
+    → IsTaking took key end read new left (number + n) from later waited more
 taking-batch {took = took} {key = key} {end = end} {read = read} {left = left} {old = old}
-    {then = then} {more = more} so_far new n hashes batch counted step ended longest =
+    {later = later} {more = more} so_far new n hashes batch counted step ended longest =
     let keys = so_far.keys in
     let hash = sip key.0 key.1 in record {
       keys = keys ++ batch.keys;
@@ -340,7 +341,7 @@ taking-batch {took = took} {key = key} {end = end} {read = read} {left = left} {
           ap length batch.hashed ∙ length-map hash batch.keys in
           simp length-append (omega (arith, so_far.counted, counted, many));
       taken = λ first before earlier.
-          subst (HasTaken took first then more)
+          subst (HasTaken took first later more)
           (ap (λ l. (before ++ map hash keys) ++ l) batch.hashed
           ∙ append_assoc before (map hash keys) (map hash batch.keys)
           ∙ ap (λ l. before ++ l) (sym (map-append hash keys batch.keys)))
