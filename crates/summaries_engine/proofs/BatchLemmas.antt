@@ -338,7 +338,7 @@ taking-batch {took = took} {key = key} {end = end} {read = read} {left = left} {
       };
       counted =
           let many : length hashes ≡ length batch.keys =
-          ap length batch.hashed ∙ length-map hash batch.keys in
+          ap length batch.hashed ∙ length-map batch.keys hash in
           simp length-append (omega (arith, so_far.counted, counted, many));
       taken = λ first before earlier.
           subst (HasTaken took first later more)

@@ -78,6 +78,25 @@ returns-in-Err-clause-stops g c =
     c.flush_before_a_read.ensures.kept in
     asking-stops so_far (why-read c.unread.ensures.failed)
 
+-- a write failed
+pub returns-in_err-write_if-clause-stops : goal.returns-in_err-write_if-clause-stops
+returns-in_err-write_if-clause-stops g c =
+    let so_far = answering-kept
+    (answering-batch c.keys.invariant c.answer_waiting.new.lines c.in_ok-number.field-0
+    c.in_ok-number.ensures.wrote c.answer_waiting.ensures.ended c.answer_waiting.ensures.longest)
+    c.flush_before_a_read.ensures.kept in
+    let now = c.in-Ok-Line.ensures in
+    let cut = c.in_err-write_if in
+    let key = c.line-in-keys.result.now in
+    let is : c.from_residual-in_err-write_if.result ≡ Err cut.field-0.0 = search rules in
+    rw is
+    (asking-cut so_far c.next_line.new.self _ (rw c.in-Ok-Line.field-0-is at now.next) now.knows
+    now.longest c.line-in-keys.ensures
+    (subst (λ text. AppendsPart text _ _)
+    (reply-hashed c.args.filter.now c.args.wanted g.row.END key c.contains_hash.result
+    c.hash_of-hash.result (search rules) c.contains_hash.ensures)
+    cut.ensures.part) cut.ensures.failed)
+
 -- one key more
 pub keys-preserved : goal.keys-preserved
 keys-preserved g c =
