@@ -92,7 +92,9 @@ returns-in_err-write_if-clause-stops g c =
     rw is
     (asking-cut so_far c.next_line.new.self _ (rw c.in-Ok-Line.field-0-is at now.next) now.knows
     now.longest c.line-in-keys.ensures
-    (subst (λ text. AppendsPart text _ _)
+    (subst
+    (λ text. AppendsPart text (g.O.Write.contents c.flush_before_a_read.new.output)
+    (g.O.Write.contents c.write_if.new.output))
     (reply-hashed c.args.filter.now c.args.wanted g.row.END key c.contains_hash.result
     c.hash_of-hash.result (search rules) c.contains_hash.ensures)
     cut.ensures.part) cut.ensures.failed)
