@@ -1,5 +1,5 @@
 //! Reading one line after the other.
-ghost use Rattle.std.specs.Prelude.{◌≡◌, false, true, [], IfOk, OnErr, OnOk};
+ghost use Rattle.std.specs.Prelude.{◌≡◌, ◌≤◌, false, true, [], drop, length, IfOk, OnErr, OnOk};
 ghost use Rattle.std.specs.Io.KnownBytes.{Consumes, Keeps, prepend_known};
 ghost use Rattle.lines.specs.Losing.{LosesPart};
 ghost use Rattle.lines.specs.Reading.{KnowsEnd, NextLineBy, has_next_by, is_told_by, left_of};
@@ -80,6 +80,16 @@ impl<const END: u8> LineReaderBy<END> {
         ensures { result.now ≡ self.now.bytes }
     {
         self.block.as_slice()
+    }
+
+    /// Takes the first bytes that wait.
+    pub fn skip(&mut self, count: usize)
+        requires { count ≤ length self.old.bytes }
+        ensures bytes { self.new.bytes ≡ drop count self.old.bytes }
+        ensures ended { self.new.ended ≡ self.old.ended }
+        ensures longest { self.new.longest ≡ self.old.longest }
+    {
+        self.block.skip(count);
     }
 
     /// Whether the next line is told without a read: its end waits, or more bytes than a line may

@@ -108,16 +108,15 @@ module _ {F : Type 0} (took : F → List ℕ → F → Type 0) (first old new : 
     are = has.are ∙ sym (append-nil (has.earlier ++ waiting));
   }
 
-  -- a hash more waits
-  pub taken-pushed : (hash : ℕ) (more : List ℕ) → more ≡ waiting ++ hash ∷ []
-      → HasTaken took first old waiting hashes
-      → HasTaken took first old more (hashes ++ hash ∷ [])
-  taken-pushed hash more pushed has = record {
+  -- further hashes wait
+  pub taken-joined : (given more : List ℕ) → more ≡ waiting ++ given
+      → HasTaken took first old waiting hashes → HasTaken took first old more (hashes ++ given)
+  taken-joined given more joined has = record {
     earlier = has.earlier;
     taken = has.taken;
     are =
-        ap (λ l. l ++ hash ∷ []) has.are ∙ append_assoc has.earlier waiting (hash ∷ [])
-        ∙ ap (λ l. has.earlier ++ l) (sym pushed);
+        ap (λ l. l ++ given) has.are ∙ append_assoc has.earlier waiting given
+        ∙ ap (λ l. has.earlier ++ l) (sym joined);
   }
 
 -- none was taken yet

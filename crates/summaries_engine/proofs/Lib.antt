@@ -1,5 +1,6 @@
 mod AnswerFacts
 mod AskingLemmas
+mod BatchLemmas
 mod BlockedFacts
 mod BothLemmas
 mod ComparingFacts

@@ -1,6 +1,6 @@
 -- What is read of keys, and what is written of a filter's replies. A key is a line without its end,
 -- which the byte `end` ends.
-use Rattle.std.specs.Prelude.{◌≡◌, ℕ, Bool, not, List, [], ◌∷◌, ◌++◌, map, filter, flat_map, Option}
+use Rattle.std.specs.Prelude.{◌≡◌, ℕ, Bool, not, List, [], ◌∷◌, ◌++◌, if◌then◌else◌, map, filter, flat_map, Option}
 use Rattle.std.specs.Io.KnownBytes.{Appends}
 use Rattle.bloom_parts.specs.Keys.{HasKey, key_of}
 use Rattle.bloom_parts.specs.Sip.{sip}
@@ -29,6 +29,11 @@ pub record HashesAll (key : ℕ × ℕ) (end : ℕ) (read left : Option (List �
 abbrev pub is_wanted : Wanted → Bool → Bool
 is_wanted Found contained = contained
 is_wanted Absent contained = not contained
+
+-- what is written of one key: the key with its end if it is wanted, and else nothing
+abbrev pub reply_text : Wanted → Bool → ℕ → List ℕ → List ℕ
+reply_text wanted contained end key =
+    if is_wanted wanted contained then key ++ end ∷ [] else []
 
 -- the keys that are wanted of a filter, in order, each with its end
 abbrev pub wanted_text : AnyFilter → Wanted → ℕ → List (List ℕ) → List ℕ

@@ -1,6 +1,7 @@
 -- Filters of either kind. A Bloom filter and a blocked one have the same parts: words, a number of
 -- hashes and a hasher. The kinds differ in where the positions of a hash lie. This project's own.
-use Rattle.std.specs.Prelude.{◌≡◌, ℕ, Bool, List}
+use Rattle.std.specs.Prelude.{◌≡◌, ℕ, Bool, ◌&&◌, List, length, nat_lt, slice_index}
+use Rattle.bloom_parts.specs.Content.{content}
 use Rattle.bloom_files.specs.declared.layout.Layout.{Layout}
 use Rattle.bloom_files.specs.declared.layout.Layout.TheVariants.{Whole, Lines}
 use Rattle.fastbloom.specs.Blocked.{contains_in_line}
@@ -24,6 +25,11 @@ layout_of (Blocked f) = Lines
 abbrev pub has_hash : AnyFilter → ℕ → Bool
 has_hash (Classic f) hash = contains f hash
 has_hash (Blocked f) hash = contains_in_line f hash
+
+-- bit i is set exactly if there is a hash i, and all of its positions are set
+abbrev pub TellsEach : AnyFilter → List ℕ → List ℕ → Type 0
+TellsEach f hashes bits = (i : ℕ) → content bits i
+    ≡ (nat_lt i (length hashes) && has_hash f (slice_index hashes i))
 
 -- the file of a filter, which is sealed
 abbrev pub file_of_kind : AnyFilter → List ℕ

@@ -1,4 +1,5 @@
 pub mod Answers
+pub mod Batches
 pub mod Comparing
 pub mod Crews
 pub mod Facts

@@ -1,8 +1,10 @@
 //! Which keys of inputs a filter contains, and which it doesn't.
-ghost use Rattle.std.specs.Prelude.{◌≡◌, ◌∷◌, [], map, IfErr, OnErr, OnOk};
+ghost use Rattle.std.specs.Prelude.{◌≡◌, ◌≤◌, ◌<◌, ◌*◌, [], length, map, IfErr, IfOk, OnErr, OnOk};
 ghost use Rattle.std.specs.Io.KnownBytes.{Appends, Keeps};
+ghost use Rattle.bloom_parts.specs.Content.{content};
 ghost use Rattle.lines.specs.Writing.{AppendsPart};
-ghost use Rattle.summaries_engine.specs.Answers.{IsKeyed, AnswersAll, is_wanted, wanted_text};
+ghost use Rattle.summaries_engine.specs.Answers.{IsKeyed, AnswersAll, is_wanted, reply_text};
+ghost use Rattle.summaries_engine.specs.Batches.{AnswersFirst, AnswersPart, HashesSome};
 ghost use Rattle.summaries_engine.specs.Inputs.{AnswersInputs, StopsAsking};
 ghost use Rattle.summaries_engine.specs.Stops.{IsUnwritten, StopsAnswers};
 
@@ -10,6 +12,7 @@ use crate::inputs::Inputs;
 use crate::keys::{LONGEST, hash_of, too_long, too_many, unread};
 use crate::kinds::AnyFilter;
 use crate::stop::{Stop, cause, written};
+use crate::waiting::{TOGETHER, first_key, hash_first};
 use lines::{LineReaderBy, Next, put_line_by};
 use std::alloc::Global;
 use std::io::{Read, Write};
@@ -41,21 +44,21 @@ fn flush<O: Write>(output: &mut O) -> Result<(), Stop>
     written(output.flush(), "the keys can't be written")
 }
 
-// Writes a key if it is wanted.
-fn write_wanted<const END: u8, O: Write>(
-    filter: &AnyFilter,
+// Writes a key and its end, if it is wanted.
+#[inline(always)]
+fn write_if<const END: u8, O: Write>(
     wanted: Wanted,
+    is_contained: bool,
     key: &[u8],
     output: &mut O,
 ) -> Result<(), Stop>
-    requires { IsKeyed filter.now }
     ensures wrote { OnOk result (Appends (O.contents output.old) (O.contents output.new)
-        (wanted_text filter.now wanted END (key.now ∷ []))) }
+        (reply_text wanted is_contained END key.now)) }
     ensures failed { IfErr result IsUnwritten }
-    ensures part { OnErr result (AppendsPart (wanted_text filter.now wanted END (key.now ∷ []))
+    ensures part { OnErr result (AppendsPart (reply_text wanted is_contained END key.now)
         (O.contents output.old) (O.contents output.new)) }
 {
-    if !is_wanted(wanted, filter.contains_hash(hash_of(filter.hasher(), key))) {
+    if !is_wanted(wanted, is_contained) {
         return Ok(());
     }
     match put_line_by(output, key, END) {
@@ -64,29 +67,94 @@ fn write_wanted<const END: u8, O: Write>(
     }
 }
 
-// Writes a key if it is wanted, and flushes where the next read may wait.
-fn answer_key<const END: u8, O: Write>(
-    filter: &AnyFilter,
-    wanted: Wanted,
-    key: &[u8],
-    waits: bool,
-    output: &mut O,
-) -> Result<(), Stop>
-    requires { IsKeyed filter.now }
-    ensures wrote { OnOk result (Appends (O.contents output.old) (O.contents output.new)
-        (wanted_text filter.now wanted END (key.now ∷ []))) }
-    ensures failed { IfErr result IsUnwritten }
-    ensures part { OnErr result (AppendsPart (wanted_text filter.now wanted END (key.now ∷ []))
-        (O.contents output.old) (O.contents output.new)) }
+// Whether a bit of some words is set.
+#[inline(always)]
+fn is_set(words: &[u64], bit: usize) -> bool
+    requires { bit < 64 * length words.now }
+    ensures { result ≡ content words.now bit }
 {
-    write_wanted::<END, O>(filter, wanted, key, output)?;
-    if waits {
-        return flush(output);
-    }
-    Ok(())
+    (words[bit / 64] >> (bit % 64)) % 2 == 1
 }
 
-// Writes those keys of one input that `wanted` chooses.
+// Writes those of the first keys of some bytes that `wanted` chooses, where these are the hashes of
+// these keys. Returns how many were answered, and the bytes behind them.
+fn write_first<'a, const END: u8, O: Write>(
+    filter: &AnyFilter,
+    wanted: Wanted,
+    hashes: &[u64],
+    bytes: &'a [u8],
+    output: &mut O,
+) -> Result<(usize, &'a [u8]), Stop>
+    requires few { length hashes.now ≤ 256 }
+    requires hashes { HashesSome filter.now END bytes.now hashes.now }
+    ensures wrote { IfOk result (λ done. AnswersFirst filter.now wanted END bytes.now done.1.now
+        done.0 (O.contents output.old) (O.contents output.new)) }
+    ensures few { IfOk result (λ done. done.0 ≤ length hashes.now) }
+    ensures failed { IfErr result IsUnwritten }
+    ensures part { OnErr result (AnswersPart filter.now wanted END bytes.now
+        (O.contents output.old) (O.contents output.new)) }
+{
+    let mut found = [0u64; TOGETHER / 64];
+    filter.contains_hashes(hashes, &mut found);
+    let mut rest = bytes;
+    let mut count: usize = 0;
+    'keys: while count < hashes.len() {
+        let Some((key, others)) = first_key::<END>(rest) else {
+            break;
+        };
+        write_if::<END, O>(wanted, is_set(&found, count), key, output)?;
+        rest = others;
+        count += 1;
+    }
+    Ok((count, rest))
+}
+
+// Writes those of the keys that wait whole that `wanted` chooses, of at most this many keys.
+// Returns how many were answered.
+fn answer_waiting<const END: u8, O: Write>(
+    filter: &AnyFilter,
+    wanted: Wanted,
+    most: u64,
+    lines: &mut LineReaderBy<END>,
+    output: &mut O,
+) -> Result<u64, Stop>
+    requires { IsKeyed filter.now }
+    ensures wrote { IfOk result (λ count. AnswersFirst filter.now wanted END lines.old.bytes
+        lines.new.bytes count (O.contents output.old) (O.contents output.new)) }
+    ensures most { IfOk result (λ count. count ≤ most) }
+    ensures ended { lines.new.ended ≡ lines.old.ended }
+    ensures longest { lines.new.longest ≡ lines.old.longest }
+    ensures failed { IfErr result IsUnwritten }
+    ensures part { OnErr result (AnswersPart filter.now wanted END lines.old.bytes
+        (O.contents output.old) (O.contents output.new)) }
+{
+    let mut hashes = [0u64; TOGETHER];
+    let room = most.min(256) as usize;
+    let bytes = lines.waiting();
+    let (count, _rest) = hash_first::<END>(filter.hasher(), bytes, &mut hashes[..room]);
+    let (count, rest) = write_first::<END, O>(filter, wanted, &hashes[..count], bytes, output)?;
+    let used = bytes.len() - rest.len();
+    lines.skip(used);
+    Ok(count as u64)
+}
+
+// Flushes what was written, where the next read may wait.
+fn flush_before_a_read<const END: u8, O: Write>(
+    lines: &LineReaderBy<END>,
+    output: &mut O,
+) -> Result<(), Stop>
+    ensures kept { Keeps (O.contents output.old) (O.contents output.new) }
+    ensures failed { IfErr result IsUnwritten }
+{
+    if lines.has_next() {
+        Ok(())
+    } else {
+        flush(output)
+    }
+}
+
+// Writes those keys of one input that `wanted` chooses. Those that wait whole are looked up
+// together, and the one behind them is read.
 fn ask_input<const END: u8, I: Read, O: Write>(
     alloc: Global,
     filter: &AnyFilter,
@@ -104,14 +172,20 @@ fn ask_input<const END: u8, I: Read, O: Write>(
     let Ok(mut lines) = LineReaderBy::<END>::new(alloc, LONGEST) else {
         return Err(Stop::Memory);
     };
-    'keys: for number in 0..u64::MAX {
+    let mut number: u64 = 0;
+    'keys: while number < u64::MAX {
+        let most = u64::MAX - 1 - number;
+        number += answer_waiting::<END, O>(filter, wanted, most, &mut lines, output)?;
+        flush_before_a_read(&lines, output)?;
         match lines.next_line(input) {
             Ok(Next::End) => return flush(output),
             Ok(Next::Line) => {}
             Ok(Next::TooLong) => return Err(too_long(name, number)),
             Err(error) => return Err(unread(name, error)),
         }
-        answer_key::<END, O>(filter, wanted, lines.line(), !lines.has_next(), output)?;
+        let hash = hash_of(filter.hasher(), lines.line());
+        write_if::<END, O>(wanted, filter.contains_hash(hash), lines.line(), output)?;
+        number += 1;
     }
     Err(too_many(name))
 }

@@ -1,9 +1,10 @@
 //! Keys: the lines of inputs, without their ends.
-ghost use Rattle.std.specs.Prelude.{◌≡◌, ◌⊎◌, ℕ, codes, List, [], ◌∷◌, ◌++◌, map, IfErr, IfOk, OnOk};
+ghost use Rattle.std.specs.Prelude.{◌≡◌, ◌⊎◌, ◌≤◌, ℕ, codes, List, [], ◌∷◌, ◌++◌, length, map, IfErr, IfOk, OnOk};
 ghost use Rattle.std.specs.IoError.{error_kind};
 ghost use Rattle.bloom_parts.specs.Keys.{HasKey};
 ghost use Rattle.bloom_parts.specs.Sip.{sip};
 ghost use Rattle.summaries_engine.specs.Answers.{HashesAll};
+ghost use Rattle.summaries_engine.specs.Batches.{HashesFirst};
 ghost use Rattle.summaries_engine.specs.Fillers.{HasTaken};
 ghost use Rattle.summaries_engine.specs.Inputs.{HashesInputs, StopsHashes};
 ghost use Rattle.summaries_engine.specs.Refusals.{too_long_text};
@@ -12,6 +13,7 @@ ghost use Rattle.summaries_engine.specs.Stops.{IsBad, IsMemory, IsUnreadAs, IsUn
 use crate::filler::Filler;
 use crate::inputs::Inputs;
 use crate::stop::{Stop, cause};
+use crate::waiting::{TOGETHER, hash_first};
 use anyhow::anyhow;
 use fastbloom::laws::source_hash_by_default;
 use fastbloom::{DefaultHasher, Text};
@@ -75,16 +77,20 @@ fn give<F: Filler>(filler: &mut F, waiting: &mut Vec<u64>) -> Result<(), Stop>
     Ok(())
 }
 
-// Puts a hash behind those that wait, and gives them where as many wait as are given at once.
-fn take_hash<F: Filler>(filler: &mut F, waiting: &mut Vec<u64>, hash: u64) -> Result<(), Stop>
+// Puts hashes behind those that wait, and gives them where as many wait as are given at once.
+fn take_hashes<F: Filler>(
+    filler: &mut F,
+    waiting: &mut Vec<u64>,
+    hashes: &[u64],
+) -> Result<(), Stop>
     requires { F.ready filler.old }
     ensures ready { OnOk result (F.ready filler.new) }
-    ensures taken { OnOk result ((first : F) (hashes : List ℕ)
-        → HasTaken F.took first filler.old waiting.old.items hashes
-        → HasTaken F.took first filler.new waiting.new.items (hashes ++ hash ∷ [])) }
+    ensures taken { OnOk result ((first : F) (before : List ℕ)
+        → HasTaken F.took first filler.old waiting.old.items before
+        → HasTaken F.took first filler.new waiting.new.items (before ++ hashes.now)) }
     ensures refused { IfErr result (λ stop. IsMemory stop ⊎ F.refuses stop) }
 {
-    let Ok(()) = waiting.push(hash) else {
+    let Ok(()) = waiting.extend_from_slice(hashes) else {
         return Err(Stop::Memory);
     };
     if waiting.len() < filler.most() {
@@ -93,7 +99,39 @@ fn take_hash<F: Filler>(filler: &mut F, waiting: &mut Vec<u64>, hash: u64) -> Re
     give(filler, waiting)
 }
 
-// Takes the hashes of all keys of an input.
+// Takes the hashes of the keys that wait whole, of at most this many keys. Returns their number.
+fn take_waiting<const END: u8, F: Filler>(
+    builder: &DefaultHasher,
+    most: u64,
+    lines: &mut LineReaderBy<END>,
+    filler: &mut F,
+    waiting: &mut Vec<u64>,
+) -> Result<u64, Stop>
+    requires { F.ready filler.old }
+    ensures ready { OnOk result (F.ready filler.new) }
+    ensures most { IfOk result (λ count. count ≤ most) }
+    ensures taken { IfOk result (λ count. (k0 k1 : ℕ) → HasKey builder.now k0 k1
+        → (hashes : List ℕ) × HashesFirst k0 k1 END lines.old.bytes lines.new.bytes hashes
+        × (count ≡ length hashes)
+        × ((first : F) (before : List ℕ)
+        → HasTaken F.took first filler.old waiting.old.items before
+        → HasTaken F.took first filler.new waiting.new.items (before ++ hashes))) }
+    ensures ended { lines.new.ended ≡ lines.old.ended }
+    ensures longest { lines.new.longest ≡ lines.old.longest }
+    ensures refused { IfErr result (λ stop. IsMemory stop ⊎ F.refuses stop) }
+{
+    let mut hashes = [0u64; TOGETHER];
+    let room = most.min(256) as usize;
+    let bytes = lines.waiting();
+    let (count, rest) = hash_first::<END>(builder, bytes, &mut hashes[..room]);
+    let used = bytes.len() - rest.len();
+    lines.skip(used);
+    take_hashes(filler, waiting, &hashes[..count])?;
+    Ok(count as u64)
+}
+
+// Takes the hashes of all keys of an input. Those that wait whole are hashed together, and the one
+// behind them is read.
 fn take_keys<const END: u8, F: Filler, I: Read>(
     alloc: Global,
     key: (u64, u64),
@@ -116,14 +154,18 @@ fn take_keys<const END: u8, F: Filler, I: Read>(
     let Ok(mut lines) = LineReaderBy::<END>::new(alloc, LONGEST) else {
         return Err(Stop::Memory);
     };
-    'keys: for number in 0..u64::MAX {
+    let mut number: u64 = 0;
+    'keys: while number < u64::MAX {
+        let most = u64::MAX - 1 - number;
+        number += take_waiting::<END, F>(&builder, most, &mut lines, filler, waiting)?;
         match lines.next_line(input) {
             Ok(Next::End) => return Ok(()),
             Ok(Next::Line) => {}
             Ok(Next::TooLong) => return Err(too_long(name, number)),
             Err(error) => return Err(unread(name, error)),
         }
-        take_hash(filler, waiting, hash_of(&builder, lines.line()))?;
+        take_hashes(filler, waiting, &[hash_of(&builder, lines.line())])?;
+        number += 1;
     }
     Err(too_many(name))
 }

@@ -1,9 +1,9 @@
 //! Filters of either kind: Bloom filters, and blocked ones.
-ghost use Rattle.std.specs.Prelude.{◌≡◌, ◌↔◌, IsTrue, OnErr, OnOk};
+ghost use Rattle.std.specs.Prelude.{◌≡◌, ◌≤◌, ◌*◌, ◌↔◌, IsTrue, length, OnErr, OnOk};
 ghost use Rattle.std.specs.Io.KnownBytes.{Appends};
 ghost use Rattle.bloom_parts.specs.Content.{AreWords};
 ghost use Rattle.lines.specs.Writing.{AppendsPart};
-ghost use Rattle.summaries_engine.specs.Kinds.{HaveSameKind, HaveSameShape, UnitesParts, file_of_kind, has_hash, parts_of};
+ghost use Rattle.summaries_engine.specs.Kinds.{HaveSameKind, HaveSameShape, TellsEach, UnitesParts, file_of_kind, has_hash, parts_of};
 
 use fastbloom::{BlockedBloomFilter, BloomFilter, DefaultHasher, FilterFile};
 use std::io;
@@ -59,6 +59,18 @@ impl AnyFilter {
         match self {
             AnyFilter::Classic(filter) => filter.contains_hash(hash),
             AnyFilter::Blocked(filter) => filter.contains_hash(hash),
+        }
+    }
+
+    /// Sets bit i of `found` where all positions of hash i are set, and clears every other bit.
+    pub fn contains_hashes(&self, hashes: &[u64], found: &mut [u64])
+        requires room { length hashes.now ≤ 64 * length found.old }
+        ensures found { TellsEach self.now hashes.now found.new }
+        ensures shape { length found.new ≡ length found.old }
+    {
+        match self {
+            AnyFilter::Classic(filter) => filter.contains_hashes(hashes, found),
+            AnyFilter::Blocked(filter) => filter.contains_hashes(hashes, found),
         }
     }
 

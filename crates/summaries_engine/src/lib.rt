@@ -1,6 +1,7 @@
 //! Summaries of keys: filters of the keys of shards, their unions, and look-ups in them.
 //!
 //! - `keys`: keys, which are lines, and their hashes, given to what takes them.
+//! - `waiting`: keys that wait whole, many of which are hashed at once.
 //! - `filler`, `crew`: what takes hashes: a filter of either kind, or workers that fill one.
 //! - `summary`, `blocked`: the filter of all keys of some inputs, or the blocked one.
 //! - `kinds`: a filter of either kind.
@@ -33,6 +34,7 @@ mod sizes;
 mod stop;
 mod summary;
 mod unions;
+mod waiting;
 
 pub use answers::{Wanted, ask};
 pub use blocked::{blocked_for, blocked_with_bits, build_blocked};

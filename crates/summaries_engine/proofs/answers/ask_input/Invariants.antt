@@ -1,3 +1,4 @@
+use Rattle.std.proofs.Common.{◌-◌, ◌^◌}
 use Rattle.summaries_engine.proofs.AskingLemmas.{IsAnswering}
 use Rattle.summaries_engine.proofs.answers.ask_input.Given as goal
 
@@ -7,3 +8,7 @@ invariant-keys g l =
     IsAnswering l.filter l.wanted g.row.END (g.I.Read.remaining l.fn.input) l.lines
     (g.I.Read.remaining l.input) l.number (g.O.Write.contents l.fn.output)
     (g.O.Write.contents l.output)
+
+-- the numbers that are left
+abbrev pub decreases-keys : goal.decreases-keys
+decreases-keys g l = 2 ^ 64 - 1 - l.number

@@ -1,0 +1,349 @@
+-- Keys at the front of some bytes, cut off one after the other, their hashes and their answers.
+use Rattle.std.proofs.Common.{◌≡◌, ◌⊎◌, inl, inr, ℕ, zero, suc, ◌+◌, ◌-◌, ◌<◌, ◌≤◌, Bool, true, false, get_or, List, [], ◌∷◌, ◌++◌, map, length, length-append, take, drop, take-append-drop, Option, Some, None, refl, sym, subst, ◌∙◌, ap, append_assoc, append-nil, arith}
+use Rattle.std.proofs.Math.Seq.{drop-cons, take-suc-set}
+use Rattle.std.proofs.lemmas.List.{map-append}
+use Rattle.std.proofs.lemmas.List.Elements.{All-append, All-from_recursion, All-nil}
+use Rattle.std.proofs.KnownBytes.{Appends-kept, Appends-nil, Appends-trans}
+use Rattle.std.proofs.Math.ListN.{set}
+use Rattle.std.proofs.lemmas.Bool.{lt-ltb}
+use Rattle.std.proofs.lemmas.List.{length-map}
+use Rattle.std.specs.Prelude.{◌&&◌, flat_map, if◌then◌else◌}
+use Rattle.bloom_parts.specs.Content.{content}
+use Rattle.std.specs.Io.KnownBytes.{Appends, Keeps, prepend_known}
+use Rattle.bloom_parts.specs.Sip.{sip}
+use Rattle.lines.specs.Lines.{IsEndedBy, lines_by}
+use Rattle.lines.specs.Reading.{AreShort, HasEndAtBy, KnowsEnd, Waiting}
+use Rattle.lines.specs.Writing.{AppendsPart}
+use Rattle.lines.proofs.LineLemmas.{IsEnded-append, IsEnded-line, IsEnded-nil, lines_by-ended, lines_by-nil}
+use Rattle.lines.proofs.TakenLemmas.{IsReadFrom-taken, TakesLinesBy, nil-back, nil-front}
+use Rattle.lines.proofs.WritingLemmas.{part-second}
+use Rattle.summaries_engine.specs.declared.answers.Wanted.{Wanted}
+use Rattle.summaries_engine.specs.declared.kinds.AnyFilter.{AnyFilter}
+use Rattle.summaries_engine.specs.Answers.{is_wanted, reply_text, wanted_text}
+use Rattle.summaries_engine.specs.Batches.{AnswersFirst, AnswersPart, CutsKey, CutsKeys, HashesFirst, HashesSome}
+use Rattle.summaries_engine.specs.Kinds.{TellsEach, has_hash}
+use Rattle.summaries_engine.specs.declared.stop.Stop.{Stop}
+use Rattle.summaries_engine.specs.Stops.{IsUnwritten, StopsWriting}
+use Rattle.summaries_engine.specs.Summaries.{hash_in}
+use Rattle.summaries_engine.specs.Fillers.{HasTaken}
+use Rattle.summaries_engine.proofs.KeyLemmas.{IsTaking}
+use Rattle.summaries_engine.proofs.AskingLemmas.{IsAnswering, wanted_text-append}
+
+-- a key is cut off with the end that was found
+pub cuts-at : (end : ℕ) (bytes : List ℕ) (at : ℕ) → HasEndAtBy end bytes at → at ≤ 65536
+    → CutsKey end bytes (take at bytes) (drop (at + 1) bytes)
+cuts-at end bytes at found short =
+    let next : suc at ≡ at + 1 = omega arith in
+    record {
+      cut =
+          sym (take-append-drop at bytes)
+          ∙ ap (λ l. take at bytes ++ l)
+          (drop-cons bytes at 0 found.within
+          ∙ ap (λ b. b ∷ drop (suc at) bytes) found.ended
+          ∙ ap (λ n. end ∷ drop n bytes) next);
+      inside = found.inside;
+      short = few at bytes short;
+    }
+  where
+    few : (at : ℕ) (bytes : List ℕ) → at ≤ 65536 → length (take at bytes) ≤ 65536
+    few zero bytes low = omega arith
+    few (suc at) [] low = omega arith
+    few (suc at) (b ∷ bytes) low = cut at bytes 65536 low
+      where
+        cut : (n : ℕ) (l : List ℕ) (m : ℕ) → suc n ≤ m → suc (length (take n l)) ≤ m
+        cut zero l m low = omega (arith, low)
+        cut (suc n) [] m low = omega (arith, low)
+        cut (suc n) (x ∷ l) zero low = absurd (omega (arith, low))
+        cut (suc n) (x ∷ l) (suc m) low =
+            let less = cut n l m (omega (arith, low)) in omega (arith, less)
+
+-- no key was cut off
+pub cuts-none : (end : ℕ) (bytes : List ℕ) → CutsKeys end bytes bytes []
+cuts-none end bytes = record {
+  taken = [];
+  cut = refl;
+  are_lines = lines_by-nil end;
+  ended = IsEnded-nil end;
+  short = All-nil (λ key. length key ≤ 65536);
+}
+
+-- one key more was cut off
+pub cuts-more : {end : ℕ} {bytes rest : List ℕ} {keys : List (List ℕ)} {key others : List ℕ}
+    → CutsKeys end bytes rest keys → CutsKey end rest key others
+    → CutsKeys end bytes others (keys ++ key ∷ [])
+cuts-more {end = end} {keys = keys} {key = key} {others = others} so_far next =
+    let line = key ++ end ∷ [] in
+    let is_line : lines_by end line ≡ key ∷ [] =
+    lines_by-ended end key [] next.inside ∙ ap (λ l. key ∷ l) (lines_by-nil end) in
+    record {
+      taken = so_far.taken ++ line;
+      cut =
+          so_far.cut ∙ ap (λ l. so_far.taken ++ l)
+          (next.cut ∙ sym (append_assoc key (end ∷ []) others))
+          ∙ sym (append_assoc so_far.taken line others);
+      are_lines =
+          so_far.ended line ∙ ap (λ l. l ++ lines_by end line) so_far.are_lines
+          ∙ ap (λ l. keys ++ l) is_line;
+      ended =
+          IsEnded-append end so_far.taken line so_far.ended (IsEnded-line end key next.inside);
+      short = All-append (λ k. length k ≤ 65536) keys (key ∷ []) so_far.short
+          (All-from_recursion (λ k. length k ≤ 65536) (key ∷ []) (next.short, tt));
+    }
+
+-- all lines are these keys and those behind them
+cuts-lines : {end : ℕ} {bytes rest : List ℕ} {keys : List (List ℕ)} → CutsKeys end bytes rest keys
+    → lines_by end bytes ≡ keys ++ lines_by end rest
+cuts-lines {end = end} {rest = rest} cuts =
+    ap (lines_by end) cuts.cut ∙ cuts.ended rest
+    ∙ ap (λ l. l ++ lines_by end rest) cuts.are_lines
+
+-- the hash of a key behind others that it has in common with other keys
+common-hash : (f : List ℕ → ℕ) (before : List (List ℕ)) (key : List ℕ)
+    (later keys others : List (List ℕ)) → before ++ key ∷ later ≡ keys ++ others
+    → length before < length (map f keys) → get_or (map f keys) (length before) 0 ≡ f key
+common-hash f before key later [] others same low = absurd (omega (arith, low))
+common-hash f [] key later (k ∷ keys) others same low =
+    let first : key ≡ k = cc in ap f (sym first)
+common-hash f (b ∷ before) key later (k ∷ keys) others same low =
+    let rest : before ++ key ∷ later ≡ keys ++ others = cc in
+    common-hash f before key later keys others rest (omega (arith, low))
+
+-- the hash that is next is that of the next key
+pub next-hash : (f : AnyFilter) {end : ℕ} {bytes rest hashes : List ℕ} {keys : List (List ℕ)}
+    {key others : List ℕ} → HashesSome f end bytes hashes → CutsKeys end bytes rest keys
+    → CutsKey end rest key others → (n : ℕ) → n ≡ length keys → n < length hashes
+    → get_or hashes n 0 ≡ hash_in f key
+next-hash f {end = end} {rest = rest} {hashes = hashes} {keys = keys} {key = key}
+    {others = others} (last, are) so_far next n counted low =
+    let lines : lines_by end rest ≡ key ∷ lines_by end others =
+    ap (lines_by end) next.cut ∙ lines_by-ended end key others next.inside in
+    let same : keys ++ key ∷ lines_by end others ≡ are.keys ++ lines_by end last =
+    ap (λ l. keys ++ l) (sym lines) ∙ sym (cuts-lines so_far) ∙ cuts-lines are.cuts in
+    ap (λ l. get_or l n 0) are.hashed ∙ ap (λ m. get_or (map (hash_in f) are.keys) m 0) counted
+    ∙ common-hash (hash_in f) keys key (lines_by end others) are.keys (lines_by end last) same
+    (omega (arith, low, counted, ap length are.hashed))
+
+-- so its bit tells whether the next key is contained
+pub found-is : (f : AnyFilter) (bits : List ℕ) {end : ℕ} {bytes rest hashes : List ℕ} {keys : List (List ℕ)}
+    {key others : List ℕ} → TellsEach f hashes bits → HashesSome f end bytes hashes
+    → CutsKeys end bytes rest keys → CutsKey end rest key others → (n : ℕ) → n ≡ length keys
+    → n < length hashes → content bits n ≡ has_hash f (hash_in f key)
+found-is f bits {hashes = hashes} tells are so_far next n counted low =
+    tells n ∙ ap (λ b. b && has_hash f (get_or hashes n 0)) (lt-ltb n (length hashes) low)
+    ∙ ap (has_hash f) (next-hash f are so_far next n counted low)
+
+-- behind a key there are fewer bytes
+pub cut-fewer : {end : ℕ} {bytes key rest : List ℕ} → CutsKey end bytes key rest
+    → length rest ≤ length bytes
+cut-fewer {end = end} {key = key} {rest = rest} cuts =
+    omega (arith, ap length cuts.cut, length-append key (end ∷ rest))
+
+-- no key was hashed
+pub hashes-none : (k0 k1 end : ℕ) (bytes : List ℕ) → HashesFirst k0 k1 end bytes bytes []
+hashes-none k0 k1 end bytes = record { keys = []; cuts = cuts-none end bytes; hashed = refl }
+
+-- one key more was hashed
+pub hashes-more : {k0 k1 end : ℕ} {bytes rest : List ℕ} (hashes : List ℕ) {key others : List ℕ}
+    (n : ℕ)
+    → HashesFirst k0 k1 end bytes rest (take n hashes) → CutsKey end rest key others
+    → n < length hashes → (hash : ℕ) → hash ≡ sip k0 k1 key
+    → HashesFirst k0 k1 end bytes others (take (n + 1) (set hashes n hash))
+hashes-more {k0 = k0} {k1 = k1} hashes {key = key} n so_far next low hash is =
+    let one : n + 1 ≡ suc n = omega arith in
+    record {
+      keys = so_far.keys ++ key ∷ [];
+      cuts = cuts-more so_far.cuts next;
+      hashed =
+          ap (λ m. take m (set hashes n hash)) one ∙ take-suc-set hashes n hash low
+          ∙ ap (λ l. l ++ hash ∷ []) so_far.hashed
+          ∙ ap (λ h. map (sip k0 k1) so_far.keys ++ h ∷ []) is
+          ∙ sym (map-append (sip k0 k1) so_far.keys (key ∷ []));
+    }
+
+-- the text of one key
+pub reply-is : (f : AnyFilter) (wanted : Wanted) (end : ℕ) (key : List ℕ) (contained : Bool)
+    → contained ≡ has_hash f (hash_in f key)
+    → reply_text wanted contained end key ≡ wanted_text f wanted end (key ∷ [])
+reply-is f wanted end key contained is =
+    ap (λ b. reply_text wanted b end key) is
+    ∙ either (is_wanted wanted (has_hash f (hash_in f key)))
+  where
+    either : (b : Bool) → (if b then key ++ end ∷ [] else [])
+        ≡ flat_map (λ k. k ++ end ∷ []) (if b then key ∷ [] else [])
+    either true = sym (append-nil (key ++ end ∷ []))
+    either false = refl
+
+-- the text of one key that was looked up by its hash
+pub reply-hashed : (f : AnyFilter) (wanted : Wanted) (end : ℕ) (key : List ℕ) (contained : Bool)
+    (hash : ℕ) → hash ≡ hash_in f key → contained ≡ has_hash f hash
+    → reply_text wanted contained end key ≡ wanted_text f wanted end (key ∷ [])
+reply-hashed f wanted end key contained hash hashed is =
+    reply-is f wanted end key contained (is ∙ ap (has_hash f) hashed)
+
+-- no key was answered
+pub answers-none : (f : AnyFilter) (wanted : Wanted) (end : ℕ) (bytes : List ℕ)
+    (from : Option (List ℕ)) → AnswersFirst f wanted end bytes bytes 0 from from
+answers-none f wanted end bytes from = record {
+  keys = [];
+  cuts = cuts-none end bytes;
+  counted = refl;
+  text = Appends-nil from;
+}
+
+module _ {f : AnyFilter} {wanted : Wanted} {end : ℕ} {bytes rest key others : List ℕ} {n : ℕ}
+    {from to more : Option (List ℕ)} {contained : Bool}
+    (so_far : AnswersFirst f wanted end bytes rest n from to) (next : CutsKey end rest key others)
+    (is : contained ≡ has_hash f (hash_in f key)) where
+  -- one key more was answered
+  pub answers-more : Appends to more (reply_text wanted contained end key)
+      → AnswersFirst f wanted end bytes others (n + 1) from more
+  answers-more wrote = record {
+    keys = so_far.keys ++ key ∷ [];
+    cuts = cuts-more so_far.cuts next;
+    counted = simp length-append (omega (arith, so_far.counted));
+    text = subst (Appends from more) (sym (wanted_text-append f wanted end so_far.keys (key ∷ [])))
+        (Appends-trans from to more _ _ so_far.text
+        (subst (Appends to more) (reply-is f wanted end key contained is) wrote));
+  }
+
+  -- a write failed within the answer to one key more
+  pub answers-cut : AppendsPart (reply_text wanted contained end key) to more
+      → AnswersPart f wanted end bytes from more
+  answers-cut part = record {
+    keys = so_far.keys ++ key ∷ [];
+    rest = others;
+    cuts = cuts-more so_far.cuts next;
+    part = subst (λ text. AppendsPart text from more)
+        (sym (wanted_text-append f wanted end so_far.keys (key ∷ [])))
+        (part-second (wanted_text f wanted end so_far.keys) (wanted_text f wanted end (key ∷ []))
+        from to more so_far.text
+        (subst (λ text. AppendsPart text to more) (reply-is f wanted end key contained is) part));
+  }
+
+-- keys were taken off the bytes that waited
+pub takes-front : (end : ℕ) (read : Option (List ℕ)) (bytes rest : List ℕ)
+    (left : Option (List ℕ)) (lines keys : List (List ℕ))
+    → TakesLinesBy end read (prepend_known bytes left) lines → CutsKeys end bytes rest keys
+    → TakesLinesBy end read (prepend_known rest left) (lines ++ keys)
+takes-front end None bytes rest left lines keys so_far cuts = tt
+takes-front end (Some x) bytes rest None lines keys so_far cuts = absurd so_far
+takes-front end (Some x) bytes rest (Some y) lines keys so_far cuts = record {
+  taken = so_far.taken ++ cuts.taken;
+  cut =
+      so_far.cut ∙ ap (λ l. so_far.taken ++ (l ++ y)) cuts.cut
+      ∙ ap (λ l. so_far.taken ++ l) (append_assoc cuts.taken rest y)
+      ∙ sym (append_assoc so_far.taken cuts.taken (rest ++ y));
+  are_lines = lines-are so_far.last;
+  last = last-is so_far.last;
+}
+  where
+    none : bytes ++ y ≡ [] → cuts.taken ≡ []
+    none nothing = nil-front cuts.taken rest (sym cuts.cut ∙ nil-front bytes y nothing)
+
+    lines-are : IsEndedBy end so_far.taken ⊎ (bytes ++ y ≡ [])
+        → lines_by end (so_far.taken ++ cuts.taken) ≡ lines ++ keys
+    lines-are (inl ended) =
+        ended cuts.taken ∙ ap (λ l. l ++ lines_by end cuts.taken) so_far.are_lines
+        ∙ ap (λ l. lines ++ l) cuts.are_lines
+    lines-are (inr nothing) =
+        let no_keys : keys ≡ [] =
+        sym cuts.are_lines ∙ ap (lines_by end) (none nothing) ∙ lines_by-nil end in
+        ap (λ l. lines_by end (so_far.taken ++ l)) (none nothing)
+        ∙ ap (lines_by end) (append-nil so_far.taken) ∙ so_far.are_lines
+        ∙ sym (ap (λ l. lines ++ l) no_keys ∙ append-nil lines)
+
+    last-is : IsEndedBy end so_far.taken ⊎ (bytes ++ y ≡ [])
+        → IsEndedBy end (so_far.taken ++ cuts.taken) ⊎ (rest ++ y ≡ [])
+    last-is (inl ended) = inl (IsEnded-append end so_far.taken cuts.taken ended cuts.ended)
+    last-is (inr nothing) =
+        let no_rest : rest ≡ [] =
+        nil-back cuts.taken rest (sym cuts.cut ∙ nil-front bytes y nothing) in
+        inr (ap (λ l. l ++ y) no_rest ∙ nil-back bytes y nothing)
+
+module _ {f : AnyFilter} {wanted : Wanted} {end : ℕ} {read left from to more : Option (List ℕ)}
+    {old : Waiting} {number : ℕ}
+    (so_far : IsAnswering f wanted end read old left number from to) where
+  -- the keys that waited were answered, too
+  pub answering-batch : (new : Waiting) (n : ℕ)
+      → AnswersFirst f wanted end old.bytes new.bytes n to more → new.ended ≡ old.ended
+      → new.longest ≡ old.longest → IsAnswering f wanted end read new left (number + n) from more
+  answering-batch new n batch ended longest =
+      let keys = so_far.keys in record {
+        keys = keys ++ batch.keys;
+        has_read = record {
+          taken = takes-front end read old.bytes new.bytes left keys batch.keys
+              so_far.has_read.taken batch.cuts;
+          knows = subst (λ e. KnowsEnd e left) (sym ended) so_far.has_read.knows;
+          longest = longest ∙ so_far.has_read.longest;
+          short = All-append (λ k. length k ≤ 65536) keys batch.keys so_far.has_read.short
+              batch.cuts.short;
+        };
+        counted = simp length-append (omega (arith, so_far.counted, batch.counted));
+        text = subst (Appends from more) (sym (wanted_text-append f wanted end keys batch.keys))
+            (Appends-trans from to more _ _ so_far.text batch.text);
+      }
+
+  -- a write failed within the answers to the keys that waited
+  pub asking-batch-cut : {stop : Stop} → AnswersPart f wanted end old.bytes to more
+      → IsUnwritten stop → StopsWriting f wanted end [] read from more stop
+  asking-batch-cut batch says =
+      let keys = so_far.keys in
+      let taken = takes-front end read old.bytes batch.rest left keys batch.keys
+      so_far.has_read.taken batch.cuts in
+      record {
+        keys = keys ++ batch.keys;
+        first = IsReadFrom-taken end read (prepend_known batch.rest left) (keys ++ batch.keys)
+            taken;
+        short = All-append (λ k. length k ≤ 65536) keys batch.keys so_far.has_read.short
+            batch.cuts.short;
+        part = subst (λ text. AppendsPart text from more)
+            (sym (wanted_text-append f wanted end keys batch.keys))
+            (part-second (wanted_text f wanted end keys) (wanted_text f wanted end batch.keys)
+            from to more so_far.text batch.part);
+        says = says;
+      }
+
+  -- what was answered was flushed
+  pub answering-kept : Keeps to more → IsAnswering f wanted end read old left number from more
+  answering-kept kept = record {
+    keys = so_far.keys;
+    has_read = so_far.has_read;
+    counted = so_far.counted;
+    text = Appends-kept from to more (wanted_text f wanted end so_far.keys) so_far.text kept;
+  }
+
+-- the keys that waited were hashed, and the hashes taken
+pub taking-batch : {F : Type 0} {took : F → List ℕ → F → Type 0} {key : ℕ × ℕ} {end : ℕ}
+    {read left : Option (List ℕ)} {old : Waiting} {number : ℕ} {from now later : F}
+    {waited waits more : List ℕ}
+    → IsTaking took key end read old left number from now waited waits → (new : Waiting) (n : ℕ)
+    (hashes : List ℕ) → HashesFirst key.0 key.1 end old.bytes new.bytes hashes
+    → n ≡ length hashes
+    → ((first : F) (before : List ℕ) → HasTaken took first now waits before
+    → HasTaken took first later more (before ++ hashes))
+    → new.ended ≡ old.ended → new.longest ≡ old.longest
+    → IsTaking took key end read new left (number + n) from later waited more
+taking-batch {took = took} {key = key} {end = end} {read = read} {left = left} {old = old}
+    {later = later} {more = more} so_far new n hashes batch counted step ended longest =
+    let keys = so_far.keys in
+    let hash = sip key.0 key.1 in record {
+      keys = keys ++ batch.keys;
+      has_read = record {
+        taken = takes-front end read old.bytes new.bytes left keys batch.keys
+            so_far.has_read.taken batch.cuts;
+        knows = subst (λ e. KnowsEnd e left) (sym ended) so_far.has_read.knows;
+        longest = longest ∙ so_far.has_read.longest;
+        short = All-append (λ k. length k ≤ 65536) keys batch.keys so_far.has_read.short
+            batch.cuts.short;
+      };
+      counted =
+          let many : length hashes ≡ length batch.keys =
+          ap length batch.hashed ∙ length-map batch.keys hash in
+          simp length-append (omega (arith, so_far.counted, counted, many));
+      taken = λ first before earlier.
+          subst (HasTaken took first later more)
+          (ap (λ l. (before ++ map hash keys) ++ l) batch.hashed
+          ∙ append_assoc before (map hash keys) (map hash batch.keys)
+          ∙ ap (λ l. before ++ l) (sym (map-append hash keys batch.keys)))
+          (step first (before ++ map hash keys) (so_far.taken first before earlier));
+    }
