@@ -8,10 +8,13 @@
 #define Py_LIMITED_API 0x030b0000
 #include <Python.h>
 
+#include <structmember.h>
+
 #define FASTBLOOM_NO_WRAPPERS
 #include "fastbloom.h"
 
 #include <errno.h>
+#include <stddef.h>
 #include <string.h>
 #include <unistd.h>
 
@@ -31,7 +34,8 @@ static uint64_t none[LINE / sizeof(uint64_t)];
 /* The package's function for the bytes of what is neither a text nor bytes. */
 static PyObject *plain_bytes;
 
-/* The library's calls on the words of one kind, those of plain ones in the form of shared ones. */
+/* The library's calls on the hashes of one kind of filters. Plain words are handed over in the form
+ * of shared ones. */
 typedef struct calls {
     bool (*insert_hash)(fastbloom_shared, uint32_t, uint64_t);
     bool (*contains_hash)(fastbloom_shared, uint32_t, uint64_t);
@@ -42,73 +46,39 @@ typedef struct calls {
                                    size_t);
     bool (*rate_now)(fastbloom_shared, uint32_t, uint64_t *, uint64_t *);
     bool (*estimate)(fastbloom_shared, uint32_t, uint64_t *, uint64_t *);
-    bool (*clear)(fastbloom_shared);
-    bool (*unite)(fastbloom_shared, fastbloom_shared);
-    bool (*intersect)(fastbloom_shared, fastbloom_shared);
-    size_t (*count_ones)(fastbloom_shared);
 } calls;
 
-#define ON_PLAIN_WORDS(kind)                                                                       \
-    static bool plain_##kind##insert_hash(fastbloom_shared to, uint32_t k, uint64_t hash) {        \
-        return fastbloom_##kind##insert_hash(to.words, to.num_words, k, hash);                     \
-    }                                                                                              \
-    static bool plain_##kind##contains_hash(fastbloom_shared in, uint32_t k, uint64_t hash) {      \
-        return fastbloom_##kind##contains_hash(in.words, in.num_words, k, hash);                   \
-    }                                                                                              \
-    static bool plain_##kind##insert_hashes(fastbloom_shared to, uint32_t k,                       \
-                                            const uint64_t *hashes, size_t count) {                \
-        return fastbloom_##kind##insert_hashes(to.words, to.num_words, k, hashes, count);          \
-    }                                                                                              \
-    static bool plain_##kind##contains_hashes(fastbloom_shared in, uint32_t k,                     \
-                                              const uint64_t *hashes, size_t count,                \
-                                              uint64_t *bits, size_t num_bits) {                   \
-        return fastbloom_##kind##contains_hashes(in.words, in.num_words, k, hashes, count, bits,   \
-                                                 num_bits);                                        \
-    }                                                                                              \
-    static bool plain_##kind##insert_hashes_tell_new(fastbloom_shared to, uint32_t k,              \
-                                                     const uint64_t *hashes, size_t count,         \
-                                                     uint64_t *bits, size_t num_bits) {            \
-        return fastbloom_##kind##insert_hashes_tell_new(to.words, to.num_words, k, hashes, count,  \
-                                                        bits, num_bits);                           \
-    }                                                                                              \
-    static bool plain_##kind##rate_now(fastbloom_shared of, uint32_t k, uint64_t *low,             \
-                                       uint64_t *high) {                                           \
-        return fastbloom_##kind##rate_now(of.words, of.num_words, k, low, high);                   \
-    }                                                                                              \
-    static bool plain_##kind##estimate(fastbloom_shared of, uint32_t k, uint64_t *low,             \
-                                       uint64_t *high) {                                           \
-        return fastbloom_##kind##estimate(of.words, of.num_words, k, low, high);                   \
-    }
-ON_PLAIN_WORDS()
-ON_PLAIN_WORDS(blocked_)
+/* Calls on plain words, by the parameters of `calls` and what is made of them. */
+#define PLAIN(call, parameters, arguments)                                                         \
+    static bool plain_##call parameters { return fastbloom_##call arguments; }                     \
+    static bool plain_blocked_##call parameters { return fastbloom_blocked_##call arguments; }
+PLAIN(insert_hash, (fastbloom_shared to, uint32_t k, uint64_t hash),
+      (to.words, to.num_words, k, hash))
+PLAIN(contains_hash, (fastbloom_shared in, uint32_t k, uint64_t hash),
+      (in.words, in.num_words, k, hash))
+PLAIN(insert_hashes, (fastbloom_shared to, uint32_t k, const uint64_t *hashes, size_t count),
+      (to.words, to.num_words, k, hashes, count))
+PLAIN(contains_hashes,
+      (fastbloom_shared in, uint32_t k, const uint64_t *hashes, size_t count, uint64_t *bits,
+       size_t num_bits),
+      (in.words, in.num_words, k, hashes, count, bits, num_bits))
+PLAIN(insert_hashes_tell_new,
+      (fastbloom_shared to, uint32_t k, const uint64_t *hashes, size_t count, uint64_t *bits,
+       size_t num_bits),
+      (to.words, to.num_words, k, hashes, count, bits, num_bits))
+PLAIN(rate_now, (fastbloom_shared of, uint32_t k, uint64_t *low, uint64_t *high),
+      (of.words, of.num_words, k, low, high))
+PLAIN(estimate, (fastbloom_shared of, uint32_t k, uint64_t *low, uint64_t *high),
+      (of.words, of.num_words, k, low, high))
 
-static bool plain_clear(fastbloom_shared of) { return fastbloom_clear(of.words, of.num_words); }
-
-static bool plain_unite(fastbloom_shared of, fastbloom_shared other) {
-    return fastbloom_union(of.words, of.num_words, other.words, other.num_words);
-}
-
-static bool plain_intersect(fastbloom_shared of, fastbloom_shared other) {
-    return fastbloom_intersect(of.words, of.num_words, other.words, other.num_words);
-}
-
-static size_t plain_count_ones(fastbloom_shared of) {
-    return fastbloom_count_ones(of.words, of.num_words);
-}
-
-#define CALLS(of_hashes, of_words, unite)                                                          \
+#define CALLS(of)                                                                                  \
     {                                                                                              \
-        of_hashes##insert_hash, of_hashes##contains_hash, of_hashes##insert_hashes,                \
-            of_hashes##contains_hashes, of_hashes##insert_hashes_tell_new, of_hashes##rate_now,    \
-            of_hashes##estimate, of_words##clear, unite, of_words##intersect, of_words##count_ones \
+        of##insert_hash, of##contains_hash, of##insert_hashes, of##contains_hashes,                \
+            of##insert_hashes_tell_new, of##rate_now, of##estimate                                 \
     }
 
-static const calls CALLS_OF[KINDS] = {
-    CALLS(plain_, plain_, plain_unite),
-    CALLS(plain_blocked_, plain_, plain_unite),
-    CALLS(fastbloom_shared_, fastbloom_shared_, fastbloom_shared_union),
-    CALLS(fastbloom_blocked_shared_, fastbloom_shared_, fastbloom_shared_union),
-};
+static const calls CALLS_OF[KINDS] = {CALLS(plain_), CALLS(plain_blocked_),
+                                      CALLS(fastbloom_shared_), CALLS(fastbloom_blocked_shared_)};
 
 /* The calls on sizes and files of filters, of those that aren't blocked and of those that are. */
 typedef struct sizes {
@@ -125,14 +95,6 @@ static const sizes SIZES[] = {{fastbloom_plan, fastbloom_rate_bounds, fastbloom_
                               {fastbloom_blocked_plan, fastbloom_blocked_rate_bounds,
                                fastbloom_blocked_capacity, fastbloom_blocked_seal,
                                fastbloom_blocked_head_write, fastbloom_blocked_head_read}};
-
-/* Does what touches nothing of Python's, without the interpreter's lock where this is worth it. */
-#define UNLOCKED_IF(is_worth_it, work)                                                             \
-    do {                                                                                           \
-        PyThreadState *kept = (is_worth_it) ? PyEval_SaveThread() : NULL;                          \
-        work;                                                                                      \
-        if (kept != NULL) PyEval_RestoreThread(kept);                                              \
-    } while (0)
 
 /* ---- Memory of words, all of them clear, from where a line of the cache begins ---- */
 
@@ -191,7 +153,7 @@ typedef struct filter {
     fastbloom_shared words;
     const calls *call;
     unsigned kind;
-    uint32_t num_hashes;
+    unsigned num_hashes;
     uint8_t key[KEY];
 } filter;
 
@@ -308,10 +270,26 @@ static int hash_in(PyObject *number, uint64_t *hash) {
     return -1;
 }
 
-static PyObject *filter_add(PyObject *self, PyObject *item) {
+/* The one argument of a call, given by its name. */
+static PyObject *named(PyObject *const *all, Py_ssize_t count, PyObject *names, const char *name) {
+    if (count == 0 && names != NULL && PyTuple_Size(names) == 1 &&
+        PyUnicode_CompareWithASCIIString(PyTuple_GetItem(names, 0), name) == 0)
+        return *all;
+    return PyErr_Format(PyExc_TypeError, "the call takes one argument, `%s`", name);
+}
+
+/* The one argument of a call. */
+static inline PyObject *argument(PyObject *const *all, Py_ssize_t count, PyObject *names,
+                                 const char *name) {
+    return count == 1 && names == NULL ? *all : named(all, count, names, name);
+}
+
+static PyObject *filter_add(PyObject *self, PyObject *const *all, Py_ssize_t count,
+                            PyObject *names) {
     filter *it = (filter *)self;
+    PyObject *item = argument(all, count, names, "item");
     uint64_t hash;
-    if (!is_made(it) || hash_of(it, item, &hash)) return NULL;
+    if (item == NULL || !is_made(it) || hash_of(it, item, &hash)) return NULL;
     return PyBool_FromLong(it->call->insert_hash(it->words, it->num_hashes, hash));
 }
 
@@ -322,63 +300,83 @@ static int filter_contains(PyObject *self, PyObject *item) {
     return it->call->contains_hash(it->words, it->num_hashes, hash);
 }
 
-static PyObject *filter_hash(PyObject *self, PyObject *item) {
+static PyObject *filter_hash(PyObject *self, PyObject *const *all, Py_ssize_t count,
+                             PyObject *names) {
+    filter *it = (filter *)self;
+    PyObject *item = argument(all, count, names, "item");
     uint64_t hash;
-    if (!is_made((filter *)self) || hash_of((filter *)self, item, &hash)) return NULL;
+    if (item == NULL || !is_made(it) || hash_of(it, item, &hash)) return NULL;
     return PyLong_FromUnsignedLongLong(hash);
 }
 
-static PyObject *filter_add_hash(PyObject *self, PyObject *number) {
+static PyObject *filter_add_hash(PyObject *self, PyObject *const *all, Py_ssize_t count,
+                                 PyObject *names) {
     filter *it = (filter *)self;
+    PyObject *value = argument(all, count, names, "value");
     uint64_t hash;
-    if (!is_made(it) || hash_in(number, &hash)) return NULL;
+    if (value == NULL || !is_made(it) || hash_in(value, &hash)) return NULL;
     return PyBool_FromLong(it->call->insert_hash(it->words, it->num_hashes, hash));
 }
 
-static PyObject *filter_contains_hash(PyObject *self, PyObject *number) {
+static PyObject *filter_contains_hash(PyObject *self, PyObject *const *all, Py_ssize_t count,
+                                      PyObject *names) {
     filter *it = (filter *)self;
+    PyObject *value = argument(all, count, names, "value");
     uint64_t hash;
-    if (!is_made(it) || hash_in(number, &hash)) return NULL;
+    if (value == NULL || !is_made(it) || hash_in(value, &hash)) return NULL;
     return PyBool_FromLong(it->call->contains_hash(it->words, it->num_hashes, hash));
 }
 
 /* ---- Many at once ---- */
 
-/* Keeps the words of a filter where they are, whatever becomes of it, until they are released. */
-static int hold(const filter *it, Py_buffer *held, fastbloom_shared *words) {
-    *words = it->words;
-    held->obj = NULL;
-    if (it->words.num_words == 0) return 0;
-    return PyObject_GetBuffer(it->view, held, PyBUF_SIMPLE);
-}
-
-static bool is_worth_it(const filter *it, size_t count) {
-    return it->kind & SHARED && count >= WORTH_IT;
-}
-
-/* Adds hashes, or looks them up where `bits` isn't NULL. */
-static int use_hashes(const filter *it, const uint64_t *hashes, size_t count, uint64_t *bits) {
-    const calls *call = it->call;
-    uint32_t k = it->num_hashes;
+/* A use of a filter's words, which stay where they are, whatever becomes of the filter. */
+typedef struct use {
     fastbloom_shared words;
     Py_buffer held;
-    bool told = false;
-    if (hold(it, &held, &words)) return -1;
-    UNLOCKED_IF(is_worth_it(it, count),
-                told = bits == NULL
-                           ? call->insert_hashes(words, k, hashes, count)
-                           : call->contains_hashes(words, k, hashes, count, bits, AT_ONCE / 64));
-    (void)told; /* a filter without words keeps nothing, and contains nothing */
-    if (held.obj != NULL) PyBuffer_Release(&held);
+    PyThreadState *thread;
+} use;
+
+/* Begins a use of words. Where it is worth it, the interpreter's lock is given up until the end. */
+static int begin(const filter *it, size_t size, use *of) {
+    *of = (use){it->words, {0}, NULL};
+    if (it->words.num_words > 0 && PyObject_GetBuffer(it->view, &of->held, PyBUF_SIMPLE)) return -1;
+    if (it->kind & SHARED && size >= WORTH_IT) of->thread = PyEval_SaveThread();
+    return 0;
+}
+
+static void end(use *of) {
+    if (of->thread != NULL) PyEval_RestoreThread(of->thread);
+    if (of->held.obj != NULL) PyBuffer_Release(&of->held);
+}
+
+/* What is done with hashes: they are added, looked up, or added so that the new ones are told. */
+enum { ADD, LOOK_UP, TELL_NEW };
+
+/* Does it, and tells of each hash by a bit. Without words it keeps none, and sets no bit. */
+static int use_hashes(const filter *it, unsigned what, const uint64_t *hashes, size_t count,
+                      uint64_t *bits) {
+    const calls *call = it->call;
+    use of;
+    if (begin(it, count, &of)) return -1;
+    if (what == ADD)
+        (void)call->insert_hashes(of.words, it->num_hashes, hashes, count);
+    else
+        (void)(what == LOOK_UP ? call->contains_hashes : call->insert_hashes_tell_new)(
+            of.words, it->num_hashes, hashes, count, bits, (count + 63) / 64);
+    end(&of);
     return PyErr_CheckSignals();
 }
 
-/* Hashes items a block at a time, and adds them; or, where there is a list of replies, looks them
- * up. Of those before an error each was used. */
-static PyObject *use_items(filter *it, PyObject *items, PyObject *replies) {
+/* _use_items(items, replies): hashes items a block at a time, and adds them; or, where there is a
+ * list for the replies, looks them up. Of those before an error each was used. */
+static PyObject *filter_use_items(PyObject *self, PyObject *arguments) {
+    const filter *it = (filter *)self;
     uint64_t hashes[AT_ONCE], bits[AT_ONCE / 64];
-    PyObject *item = NULL, *rest = is_made(it) ? PyObject_GetIter(items) : NULL;
+    PyObject *items, *replies, *item = NULL;
+    if (!PyArg_ParseTuple(arguments, "OO", &items, &replies) || !is_made(it)) return NULL;
+    PyObject *rest = PyObject_GetIter(items);
     if (rest == NULL) return NULL;
+    bool adds = replies == Py_None;
     do {
         size_t count = 0;
         PyObject *type = NULL, *value = NULL, *trace = NULL;
@@ -390,8 +388,8 @@ static PyObject *use_items(filter *it, PyObject *items, PyObject *replies) {
         }
         PyErr_Fetch(&type, &value, &trace);
         memset(bits, 0, sizeof bits);
-        int failed = use_hashes(it, hashes, count, replies == NULL ? NULL : bits);
-        for (size_t at = 0; !failed && replies != NULL && at < count; at++)
+        int failed = use_hashes(it, adds ? ADD : LOOK_UP, hashes, count, bits);
+        for (size_t at = 0; !failed && !adds && at < count; at++)
             failed = PyList_Append(replies, bits[at / 64] >> at % 64 & 1 ? Py_True : Py_False);
         if (type != NULL) {
             PyErr_Clear();
@@ -405,18 +403,6 @@ static PyObject *use_items(filter *it, PyObject *items, PyObject *replies) {
     } while (item != NULL);
     Py_DECREF(rest);
     Py_RETURN_NONE;
-}
-
-static PyObject *filter_add_items(PyObject *self, PyObject *items) {
-    return use_items((filter *)self, items, NULL);
-}
-
-static PyObject *filter_contains_items(PyObject *self, PyObject *items) {
-    PyObject *replies = PyList_New(0);
-    PyObject *done = replies == NULL ? NULL : use_items((filter *)self, items, replies);
-    if (done == NULL) Py_CLEAR(replies);
-    Py_XDECREF(done);
-    return replies;
 }
 
 /* Whether the format of a buffer is that of unsigned numbers of 64 bits. */
@@ -447,127 +433,68 @@ static int take_hashes(PyObject *from, Py_buffer *lent, uint64_t **copy) {
     return -1;
 }
 
-static PyObject *filter_add_hashes(PyObject *self, PyObject *from) {
-    filter *it = (filter *)self;
-    uint64_t *copy;
+/* _use_hashes(what, hashes): makes a call on the hashes in a buffer. Where it tells of each by a
+ * bit, the result is the bytes of these, and how many hashes there are. */
+static PyObject *filter_use_hashes(PyObject *self, PyObject *arguments) {
+    const filter *it = (filter *)self;
+    PyObject *from, *told = NULL;
+    uint64_t *copy, *bits = NULL;
     Py_buffer lent;
-    if (!is_made(it) || take_hashes(from, &lent, &copy)) return NULL;
-    const uint64_t *hashes = copy != NULL ? copy : lent.len > 0 ? lent.buf : none;
-    int failed = use_hashes(it, hashes, (size_t)lent.len / 8, NULL);
-    PyMem_Free(copy);
-    PyBuffer_Release(&lent);
-    if (failed) return NULL;
-    Py_RETURN_NONE;
-}
-
-/* Makes a call on the hashes in a buffer that tells of each by a bit: the bytes of these, and how
- * many hashes there are. */
-static PyObject *tell(filter *it, PyObject *from, bool adds) {
-    uint64_t *copy;
-    Py_buffer lent, held;
-    fastbloom_shared words;
-    if (!is_made(it) || take_hashes(from, &lent, &copy)) return NULL;
+    unsigned what;
+    if (!PyArg_ParseTuple(arguments, "IO", &what, &from) || !is_made(it) ||
+        take_hashes(from, &lent, &copy))
+        return NULL;
     const uint64_t *hashes = copy != NULL ? copy : lent.len > 0 ? lent.buf : none;
     size_t count = (size_t)lent.len / 8, num_bits = (count + 63) / 64;
-    uint64_t *bits = PyMem_Calloc(num_bits + 1, 8); /* (the library asks for an address) */
-    PyObject *told = NULL;
-    bool done = false;
-    if (bits == NULL) {
+    if (what != ADD) bits = PyMem_Calloc(num_bits + 1, 8); /* (the library asks for an address) */
+    if (what != ADD && bits == NULL)
         PyErr_NoMemory();
-    } else if (hold(it, &held, &words) == 0) {
-        UNLOCKED_IF(is_worth_it(it, count),
-                    done = (adds ? it->call->insert_hashes_tell_new : it->call->contains_hashes)(
-                        words, it->num_hashes, hashes, count, bits, num_bits));
-        (void)done; /* without words it tells of none, and the bits stay clear */
-        if (held.obj != NULL) PyBuffer_Release(&held);
-        told = Py_BuildValue("y#n", (char *)bits, (Py_ssize_t)(8 * num_bits), (Py_ssize_t)count);
-    }
+    else if (use_hashes(it, what, hashes, count, bits) == 0)
+        told = what == ADD ? Py_NewRef(Py_None)
+                           : Py_BuildValue("y#n", (char *)bits, (Py_ssize_t)(8 * num_bits),
+                                           (Py_ssize_t)count);
     PyMem_Free(bits);
     PyMem_Free(copy);
     PyBuffer_Release(&lent);
     return told;
 }
 
-static PyObject *filter_contains_hashes(PyObject *self, PyObject *from) {
-    return tell((filter *)self, from, false);
-}
-
-static PyObject *filter_add_hashes_tell_new(PyObject *self, PyObject *from) {
-    return tell((filter *)self, from, true);
-}
-
 /* ---- All words, and two filters ---- */
 
-/* Two bounds as a pair. */
-static PyObject *pair(uint64_t low, uint64_t high) { return Py_BuildValue("KK", low, high); }
-
 static PyObject *filter_clear_words(PyObject *self, PyObject *unused) {
-    filter *it = (filter *)self;
-    fastbloom_shared words;
-    Py_buffer held;
+    const filter *it = (filter *)self;
+    use of;
     (void)unused;
-    if (!is_made(it) || hold(it, &held, &words)) return NULL;
-    UNLOCKED_IF(is_worth_it(it, words.num_words), it->call->clear(words));
-    if (held.obj != NULL) PyBuffer_Release(&held);
+    if (!is_made(it) || begin(it, it->words.num_words, &of)) return NULL;
+    if (it->kind & SHARED)
+        fastbloom_shared_clear(of.words);
+    else
+        fastbloom_clear(of.words.words, of.words.num_words);
+    end(&of);
     Py_RETURN_NONE;
 }
 
 static PyObject *filter_count_ones(PyObject *self, PyObject *unused) {
-    filter *it = (filter *)self;
-    fastbloom_shared words;
-    Py_buffer held;
-    size_t ones = 0;
+    const filter *it = (filter *)self;
+    use of;
     (void)unused;
-    if (!is_made(it) || hold(it, &held, &words)) return NULL;
-    UNLOCKED_IF(is_worth_it(it, words.num_words), ones = it->call->count_ones(words));
-    if (held.obj != NULL) PyBuffer_Release(&held);
+    if (!is_made(it) || begin(it, it->words.num_words, &of)) return NULL;
+    size_t ones = it->kind & SHARED ? fastbloom_shared_count_ones(of.words)
+                                    : fastbloom_count_ones(of.words.words, of.words.num_words);
+    end(&of);
     return PyLong_FromSize_t(ones);
 }
 
-/* The other filter of a call, of this kind or, where `plain` is set, the plain one of it. */
-static filter *other_of(const filter *it, PyObject *other, bool plain) {
-    unsigned kind = plain ? it->kind & ~(unsigned)SHARED : it->kind;
-    if (!is_made(it)) return NULL;
-    if (PyObject_TypeCheck(other, filter_type) && ((filter *)other)->kind == kind &&
-        ((filter *)other)->view != NULL)
-        return (filter *)other;
-    PyErr_SetString(PyExc_TypeError, "the other is a filter of this kind");
-    return NULL;
+/* Calls on the words of two filters of one kind, and, from TAKE on, on those of a shared filter and
+ * a plain one. */
+enum { UNITE, INTERSECT, IS_PART, EQUAL, TAKE, LOAD, OF_TWO };
+
+static bool unite(fastbloom_shared to, fastbloom_shared from) {
+    return fastbloom_union(to.words, to.num_words, from.words, from.num_words);
 }
 
-/* Makes a call on the words of two filters of a kind and of as many words, or returns False. */
-static PyObject *with_other(filter *it, PyObject *from,
-                            bool (*call)(fastbloom_shared, fastbloom_shared)) {
-    const filter *other = other_of(it, from, false);
-    fastbloom_shared words, others;
-    Py_buffer held, other_held;
-    bool done = false;
-    if (other == NULL || hold(it, &held, &words)) return NULL;
-    int failed = hold(other, &other_held, &others);
-    if (!failed) {
-        if (words.num_words == others.num_words)
-            UNLOCKED_IF(is_worth_it(it, words.num_words), done = call(words, others));
-        if (other_held.obj != NULL) PyBuffer_Release(&other_held);
-    }
-    if (held.obj != NULL) PyBuffer_Release(&held);
-    return failed ? NULL : PyBool_FromLong(done);
-}
-
-static PyObject *filter_unite(PyObject *self, PyObject *other) {
-    filter *it = (filter *)self;
-    return is_made(it) ? with_other(it, other, it->call->unite) : NULL;
-}
-
-static PyObject *filter_intersect(PyObject *self, PyObject *other) {
-    filter *it = (filter *)self;
-    return is_made(it) ? with_other(it, other, it->call->intersect) : NULL;
-}
-
-static PyObject *filter_equal(PyObject *self, PyObject *from) {
-    const filter *it = (filter *)self, *other = other_of(it, from, false);
-    if (other == NULL) return NULL;
-    return PyBool_FromLong(fastbloom_equal(it->words.words, it->words.num_words, other->words.words,
-                                           other->words.num_words));
+static bool intersect(fastbloom_shared with, fastbloom_shared other) {
+    return fastbloom_intersect(with.words, with.num_words, other.words, other.num_words);
 }
 
 /* Whether the bits that are set are set in other words, as each is loaded. */
@@ -579,15 +506,66 @@ static bool is_part(fastbloom_shared of, fastbloom_shared other) {
     return true;
 }
 
-static PyObject *filter_is_part(PyObject *self, PyObject *from) {
-    return with_other((filter *)self, from, is_part);
+static bool are_equal(fastbloom_shared one, fastbloom_shared other) {
+    return fastbloom_equal(one.words, one.num_words, other.words, other.num_words);
 }
 
-/* What two bounds are of. Those of two filters are of plain ones. */
-enum { RATE, ITEMS, UNION, COMMON, PART, BOUNDS };
+static bool take(fastbloom_shared from, fastbloom_shared to) {
+    return fastbloom_shared_take(from, to.words, to.num_words);
+}
+
+static bool load(fastbloom_shared from, fastbloom_shared to) {
+    return fastbloom_shared_load(from, to.words, to.num_words);
+}
+
+/* The other filter of a call, of this kind or, where `plain` is set, the plain one of it. */
+static const filter *other_of(const filter *it, PyObject *other, bool plain) {
+    unsigned kind = plain ? it->kind & ~(unsigned)SHARED : it->kind;
+    if (PyObject_TypeCheck(other, filter_type) && ((filter *)other)->kind == kind &&
+        ((filter *)other)->view != NULL)
+        return (filter *)other;
+    PyErr_SetString(PyExc_TypeError, "the other is a filter of this kind");
+    return NULL;
+}
+
+/* _with(what, other): makes a call on the words of two filters. Where they have not as many words,
+ * it returns False. */
+static PyObject *filter_with(PyObject *self, PyObject *arguments) {
+    static bool (*const calls_of[OF_TWO][2])(fastbloom_shared, fastbloom_shared) = {
+        [UNITE] = {unite, fastbloom_shared_union},
+        [INTERSECT] = {intersect, fastbloom_shared_intersect},
+        [IS_PART] = {is_part, is_part},
+        [EQUAL] = {are_equal},
+        [TAKE] = {NULL, take},
+        [LOAD] = {NULL, load}};
+    const filter *it = (filter *)self, *other;
+    PyObject *from;
+    unsigned what;
+    use of, with;
+    if (!PyArg_ParseTuple(arguments, "IO", &what, &from) || !is_made(it)) return NULL;
+    bool (*call)(fastbloom_shared, fastbloom_shared) =
+        what < OF_TWO ? calls_of[what][(it->kind & SHARED) != 0] : NULL;
+    if (call == NULL) return PyErr_Format(PyExc_ValueError, "there is no such call");
+    if ((other = other_of(it, from, what >= TAKE)) == NULL || begin(other, 0, &with)) return NULL;
+    bool done = false, failed = begin(it, it->words.num_words, &of);
+    if (!failed) {
+        if (of.words.num_words == with.words.num_words) done = call(of.words, with.words);
+        end(&of);
+    }
+    end(&with);
+    return failed ? NULL : PyBool_FromLong(done);
+}
+
+/* What two bounds are of: a filter, it with a number of items, or it and another plain one. */
+enum { RATE, ITEMS, MEAN, CLASSICAL, UNION, COMMON, PART, BOUNDS };
 _Static_assert(sizeof(size_t) == sizeof(uint64_t), "a bound has 64 bits");
 
-/* _bounds(what[, other]): two bounds, or None where there are no words. */
+/* Two bounds as a pair, or the number of the reason why there are none. */
+static PyObject *bounds(unsigned code, uint64_t low, uint64_t high) {
+    return code ? PyLong_FromUnsignedLong(code) : Py_BuildValue("KK", low, high);
+}
+
+/* _bounds(what[, items or other]): two bounds, or the number of a reason. */
 static PyObject *filter_bounds(PyObject *self, PyObject *arguments) {
     static bool (*const of_two[BOUNDS][2])(const uint64_t *, size_t, const uint64_t *, size_t,
                                            uint32_t, uint64_t *, uint64_t *) = {
@@ -597,56 +575,55 @@ static PyObject *filter_bounds(PyObject *self, PyObject *arguments) {
     const filter *it = (filter *)self, *other = it;
     PyObject *from = self;
     uint64_t low = 0, high = 0;
-    fastbloom_shared words;
-    Py_buffer held;
-    unsigned what;
-    bool told = false;
+    bool told;
+    unsigned what, code;
+    use of;
     if (!PyArg_ParseTuple(arguments, "I|O", &what, &from) || !is_made(it)) return NULL;
+    if (what >= BOUNDS) return PyErr_Format(PyExc_ValueError, "there are no such bounds");
+    uint32_t k = it->num_hashes;
+    size_t num_words = it->words.num_words;
+    if (what == MEAN || what == CLASSICAL) {
+        size_t items = PyLong_AsSize_t(from);
+        if (PyErr_Occurred()) return NULL;
+        PyThreadState *thread = PyEval_SaveThread();
+        code = what == CLASSICAL
+                   ? fastbloom_expected_rate(num_words, k, items, &low, &high)
+                   : SIZES[it->kind & BLOCKED].rate_bounds(num_words, k, items, &low, &high);
+        PyEval_RestoreThread(thread);
+        return bounds(code, low, high);
+    }
     if (what >= UNION && (other = other_of(it, from, false)) == NULL) return NULL;
-    if (hold(it, &held, &words)) return NULL;
-    if (what >= UNION && what < BOUNDS)
-        told =
-            of_two[what][it->kind & BLOCKED](words.words, words.num_words, other->words.words,
-                                             other->words.num_words, it->num_hashes, &low, &high);
+    if (begin(it, num_words, &of)) return NULL;
+    if (what >= UNION)
+        told = of_two[what][it->kind & BLOCKED](of.words.words, num_words, other->words.words,
+                                                other->words.num_words, k, &low, &high);
     else
-        UNLOCKED_IF(is_worth_it(it, words.num_words),
-                    told = (what == RATE ? it->call->rate_now
-                                         : it->call->estimate)(words, it->num_hashes, &low, &high));
-    if (held.obj != NULL) PyBuffer_Release(&held);
-    if (!told) Py_RETURN_NONE;
-    return pair(low, high);
+        told = (what == RATE ? it->call->rate_now : it->call->estimate)(of.words, k, &low, &high);
+    end(&of);
+    return bounds(told ? 0 : FASTBLOOM_EMPTY_WORDS, low, high);
 }
 
-/* Puts the words of a shared filter into a plain one of this size that nobody else can reach. */
-static PyObject *copy_into(filter *it, PyObject *to,
-                           bool (*copy)(fastbloom_shared, uint64_t *, size_t)) {
-    const filter *other = other_of(it, to, true);
-    fastbloom_shared words;
-    Py_buffer held;
-    bool done = false;
-    if (other == NULL || hold(it, &held, &words)) return NULL;
-    UNLOCKED_IF(is_worth_it(it, words.num_words),
-                done = copy(words, other->words.words, other->words.num_words));
-    if (held.obj != NULL) PyBuffer_Release(&held);
-    return PyBool_FromLong(done);
-}
-
-static PyObject *filter_take_into(PyObject *self, PyObject *to) {
-    return copy_into((filter *)self, to, fastbloom_shared_take);
-}
-
-static PyObject *filter_load_into(PyObject *self, PyObject *to) {
-    return copy_into((filter *)self, to, fastbloom_shared_load);
-}
-
-/* The seal of a plain filter. Where nobody else can reach it, the interpreter's lock is given up. */
-static PyObject *filter_seal(PyObject *self, PyObject *is_alone) {
+/* _capacity(num, den): how many items it takes at a mean rate. */
+static PyObject *filter_capacity(PyObject *self, PyObject *arguments) {
     const filter *it = (filter *)self;
-    int unlocked = PyObject_IsTrue(is_alone);
-    uint64_t seal = 0;
-    if (unlocked < 0 || !is_made(it)) return NULL;
-    UNLOCKED_IF(unlocked, seal = SIZES[it->kind & BLOCKED].seal(
-                              it->words.words, it->words.num_words, it->num_hashes, it->key));
+    unsigned long long num, den;
+    if (!PyArg_ParseTuple(arguments, "KK", &num, &den) || !is_made(it)) return NULL;
+    size_t num_words = it->words.num_words;
+    PyThreadState *thread = PyEval_SaveThread();
+    size_t items = SIZES[it->kind & BLOCKED].capacity(num_words, it->num_hashes, num, den);
+    PyEval_RestoreThread(thread);
+    return PyLong_FromSize_t(items);
+}
+
+/* The seal of a plain filter that no other thread can reach. */
+static PyObject *filter_seal(PyObject *self, PyObject *unused) {
+    const filter *it = (filter *)self;
+    fastbloom_shared of = it->words;
+    (void)unused;
+    if (!is_made(it)) return NULL;
+    PyThreadState *thread = PyEval_SaveThread();
+    uint64_t seal = SIZES[it->kind & BLOCKED].seal(of.words, of.num_words, it->num_hashes, it->key);
+    PyEval_RestoreThread(thread);
     return PyLong_FromUnsignedLongLong(seal);
 }
 
@@ -661,9 +638,9 @@ static PyObject *filter_to_bytes(PyObject *self, PyObject *is_sealed) {
     uint8_t *file = (uint8_t *)PyBytes_AsString(made);
     uint64_t *words = (uint64_t *)(file + HEAD), seal = 0;
     memcpy(words, it->words.words, 8 * num_words);
-    if (sealed)
-        UNLOCKED_IF(
-            true, seal = SIZES[it->kind & BLOCKED].seal(words, num_words, it->num_hashes, it->key));
+    PyThreadState *thread = PyEval_SaveThread();
+    if (sealed) seal = SIZES[it->kind & BLOCKED].seal(words, num_words, it->num_hashes, it->key);
+    PyEval_RestoreThread(thread);
     uint8_t code =
         SIZES[it->kind & BLOCKED].head_write(num_words, it->num_hashes, it->key, seal, file);
     if (code == 0) return made;
@@ -703,10 +680,10 @@ static PyObject *filter_write(PyObject *self, PyObject *arguments) {
     for (size_t at = 0; good && !status && at < num_words; at += AT_ONCE) {
         size_t len = 8 * (num_words - at < AT_ONCE ? num_words - at : AT_ONCE);
         memcpy(part, it->words.words + at, len);
-        UNLOCKED_IF(true, {
-            if (sealed) fastbloom_hasher_update(&hasher, (uint8_t *)part, len);
-            good = write_all(file, part, len);
-        });
+        PyThreadState *thread = PyEval_SaveThread();
+        if (sealed) fastbloom_hasher_update(&hasher, (uint8_t *)part, len);
+        good = write_all(file, part, len);
+        PyEval_RestoreThread(thread);
         status = PyErr_CheckSignals();
     }
     if (good && !status && sealed) {
@@ -720,16 +697,6 @@ static PyObject *filter_write(PyObject *self, PyObject *arguments) {
     Py_RETURN_NONE;
 }
 
-static PyObject *filter_num_words(PyObject *self, void *unused) {
-    (void)unused;
-    return PyLong_FromSize_t(((filter *)self)->words.num_words);
-}
-
-static PyObject *filter_num_hashes(PyObject *self, void *unused) {
-    (void)unused;
-    return PyLong_FromUnsignedLong(((filter *)self)->num_hashes);
-}
-
 static PyObject *filter_key(PyObject *self, void *unused) {
     (void)unused;
     return PyBytes_FromStringAndSize((char *)((filter *)self)->key, KEY);
@@ -740,52 +707,45 @@ static PyObject *filter_view(PyObject *self, void *unused) {
     return is_made((filter *)self) ? Py_NewRef(((filter *)self)->view) : NULL;
 }
 
+static PyMemberDef filter_members[] = {
+    {"num_words", T_ULONG, offsetof(filter, words) + offsetof(fastbloom_shared, num_words),
+     READONLY, "The number of words of 64 bits."},
+    {"num_hashes", T_UINT, offsetof(filter, num_hashes), READONLY,
+     "The number of positions that an item has."},
+    {NULL, 0, 0, 0, NULL}};
+
 static PyGetSetDef filter_fields[] = {
-    {"num_words", filter_num_words, NULL, "The number of words of 64 bits.", NULL},
-    {"num_hashes", filter_num_hashes, NULL, "The number of positions that an item has.", NULL},
     {"key", filter_key, NULL, "The sixteen bytes of the key.", NULL},
     {"_view", filter_view, NULL, "The memory of the words.", NULL},
     {NULL, NULL, NULL, NULL, NULL}};
 
+#define BY_NAME(call) (PyCFunction)(void (*)(void)) call, METH_FASTCALL | METH_KEYWORDS
 static PyMethodDef filter_methods[] = {
-    {"add", filter_add, METH_O,
-     "add($self, item, /)\n--\n\n"
+    {"add", BY_NAME(filter_add),
+     "add($self, item)\n--\n\n"
      "Adds an item, and returns whether it was contained before.\n\n"
      "True may be a false positive. In a shared filter, False comes exactly if this call set a\n"
      "bit itself."},
-    {"hash", filter_hash, METH_O,
-     "hash($self, item, /)\n--\n\n"
+    {"hash", BY_NAME(filter_hash),
+     "hash($self, item)\n--\n\n"
      "The hash of an item: SipHash-1-3 of its bytes under the key."},
-    {"add_hash", filter_add_hash, METH_O,
-     "add_hash($self, value, /)\n--\n\n"
+    {"add_hash", BY_NAME(filter_add_hash),
+     "add_hash($self, value)\n--\n\n"
      "As `add`, by the hash. One out of range raises ValueError."},
-    {"contains_hash", filter_contains_hash, METH_O,
-     "contains_hash($self, value, /)\n--\n\n"
+    {"contains_hash", BY_NAME(filter_contains_hash),
+     "contains_hash($self, value)\n--\n\n"
      "As `in`, by the hash. One out of range raises ValueError."},
-    {"add_hashes", filter_add_hashes, METH_O,
-     "add_hashes($self, hashes, /)\n--\n\n"
-     "Adds each hash of a buffer of words of 64 bits, as of an array, by one call.\n\n"
-     "Such a buffer is an `array(\"Q\")`, an array of numpy of kind `uint64`, or a view of one.\n"
-     "Any other raises TypeError. What isn't aligned to eight is copied first. Threads that call\n"
-     "it of a shared filter, with buffers of their own, run side by side. No thread changes the\n"
-     "buffer meanwhile."},
     {"clear", filter_clear_words, METH_NOARGS, "clear($self, /)\n--\n\nRemoves every item."},
     {"count_ones", filter_count_ones, METH_NOARGS,
      "count_ones($self, /)\n--\n\nHow many of its bits are set."},
     {"_take", filter_take, METH_VARARGS, NULL},
     {"_release", filter_release, METH_O, NULL},
-    {"_add_items", filter_add_items, METH_O, NULL},
-    {"_contains_items", filter_contains_items, METH_O, NULL},
-    {"_contains_hashes", filter_contains_hashes, METH_O, NULL},
-    {"_add_hashes_tell_new", filter_add_hashes_tell_new, METH_O, NULL},
+    {"_use_items", filter_use_items, METH_VARARGS, NULL},
+    {"_use_hashes", filter_use_hashes, METH_VARARGS, NULL},
     {"_bounds", filter_bounds, METH_VARARGS, NULL},
-    {"_unite", filter_unite, METH_O, NULL},
-    {"_intersect", filter_intersect, METH_O, NULL},
-    {"_equal", filter_equal, METH_O, NULL},
-    {"_is_part", filter_is_part, METH_O, NULL},
-    {"_take_into", filter_take_into, METH_O, NULL},
-    {"_load_into", filter_load_into, METH_O, NULL},
-    {"_seal", filter_seal, METH_O, NULL},
+    {"_capacity", filter_capacity, METH_VARARGS, NULL},
+    {"_with", filter_with, METH_VARARGS, NULL},
+    {"_seal", filter_seal, METH_NOARGS, NULL},
     {"_to_bytes", filter_to_bytes, METH_O, NULL},
     {"_write", filter_write, METH_VARARGS, NULL},
     {NULL, NULL, 0, NULL}};
@@ -793,6 +753,7 @@ static PyMethodDef filter_methods[] = {
 __extension__ static PyType_Slot filter_slots[] = {{Py_tp_doc, "What all kinds of filters have."},
                                                    {Py_tp_dealloc, filter_free},
                                                    {Py_tp_methods, filter_methods},
+                                                   {Py_tp_members, filter_members},
                                                    {Py_tp_getset, filter_fields},
                                                    {Py_sq_contains, filter_contains},
                                                    {0, NULL}};
@@ -810,42 +771,7 @@ static PyObject *plan(PyObject *module, PyObject *arguments) {
     if (!PyArg_ParseTuple(arguments, "IKKK", &kind, &num, &den, &items)) return NULL;
     uint8_t code = (kind & BLOCKED ? fastbloom_blocked_plan
                                    : fastbloom_plan)(num, den, items, &num_words, &num_hashes);
-    return code ? PyLong_FromLong(code) : pair(num_words, num_hashes);
-}
-
-static PyObject *rate_bounds(PyObject *module, PyObject *arguments) {
-    unsigned long long num_words, items;
-    unsigned kind;
-    uint32_t num_hashes;
-    uint64_t low, high;
-    uint8_t code;
-    (void)module;
-    if (!PyArg_ParseTuple(arguments, "IKIK", &kind, &num_words, &num_hashes, &items)) return NULL;
-    UNLOCKED_IF(
-        true, code = SIZES[kind & BLOCKED].rate_bounds(num_words, num_hashes, items, &low, &high));
-    return code ? PyLong_FromLong(code) : pair(low, high);
-}
-
-static PyObject *expected_rate(PyObject *module, PyObject *arguments) {
-    unsigned long long num_words, items;
-    uint32_t num_hashes;
-    uint64_t low, high;
-    (void)module;
-    if (!PyArg_ParseTuple(arguments, "KIK", &num_words, &num_hashes, &items)) return NULL;
-    uint8_t code = fastbloom_expected_rate(num_words, num_hashes, items, &low, &high);
-    return code ? PyLong_FromLong(code) : pair(low, high);
-}
-
-static PyObject *capacity(PyObject *module, PyObject *arguments) {
-    unsigned long long num_words, num, den;
-    unsigned kind;
-    uint32_t num_hashes;
-    size_t items;
-    (void)module;
-    if (!PyArg_ParseTuple(arguments, "IKIKK", &kind, &num_words, &num_hashes, &num, &den))
-        return NULL;
-    UNLOCKED_IF(true, items = SIZES[kind & BLOCKED].capacity(num_words, num_hashes, num, den));
-    return PyLong_FromSize_t(items);
+    return bounds(code, num_words, num_hashes);
 }
 
 static PyObject *read_head(PyObject *module, PyObject *arguments) {
@@ -878,9 +804,6 @@ static PyObject *sync_all(PyObject *module, PyObject *number) {
 static PyMethodDef functions[] = {{"memory", new_memory, METH_O, NULL},
                                   {"sync_all", sync_all, METH_O, NULL},
                                   {"plan", plan, METH_VARARGS, NULL},
-                                  {"rate_bounds", rate_bounds, METH_VARARGS, NULL},
-                                  {"expected_rate", expected_rate, METH_VARARGS, NULL},
-                                  {"capacity", capacity, METH_VARARGS, NULL},
                                   {"read_head", read_head, METH_VARARGS, NULL},
                                   {NULL, NULL, 0, NULL}};
 static struct PyModuleDef definition = {PyModuleDef_HEAD_INIT,

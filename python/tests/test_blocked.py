@@ -62,6 +62,7 @@ class Both(Slotted):
 
 
 COUNTING_KEY = bytes(range(16))
+SIZE = "for 1000 items, 15872 bits, 9 hashes"  # in the text of a small filter
 # One line, three hashes, and the key bytes 0 to 15, of `crab` and `lobster`: the file that
 # dev/blocked-model --file makes, and docs/FILE.md explains.
 WORKED = bytes.fromhex(
@@ -165,7 +166,7 @@ class Blocked(unittest.TestCase):
         )
         self.assertEqual(BlockedFilter(10**6, "1/100").num_words, 156048)
         self.assertEqual(ctypes.addressof(ctypes.c_char.from_buffer(seen._view)) % 64, 0)
-        self.assertEqual(repr(seen), "<BlockedFilter: 15872 bits, 9 hashes, the zero key>")
+        self.assertEqual(repr(seen), f"<BlockedFilter: {SIZE}, the zero key>")
 
     def test_items(self):
         seen = small()
@@ -576,7 +577,7 @@ class Shared(unittest.TestCase):
         )
         memory = ctypes.c_char.from_buffer(seen._view)
         self.assertEqual((ctypes.addressof(memory) % 64, seen.key), (0, bytes(range(16))))
-        self.assertEqual(repr(seen), "<SharedBlockedFilter: 15872 bits, 9 hashes, a key>")
+        self.assertEqual(repr(seen), f"<SharedBlockedFilter: {SIZE}, a key>")
 
     def test_items(self):
         seen, other = SharedBlockedFilter(1000, "1/1000"), SharedBlockedFilter(1000, "1/1000")

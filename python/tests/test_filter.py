@@ -505,8 +505,11 @@ class Sizes(unittest.TestCase):
             self.assertLessEqual(high - low, 2)
 
     def test_the_text_of_a_filter_hides_its_key(self):
-        self.assertEqual(repr(small()), "<Filter: 14400 bits, 10 hashes, the zero key>")
-        self.assertEqual(repr(small(key=COUNTING_KEY)), "<Filter: 14400 bits, 10 hashes, a key>")
+        size = "for 1000 items, 14400 bits, 10 hashes"
+        self.assertEqual(repr(small()), f"<Filter: {size}, the zero key>")
+        self.assertEqual(repr(small(key=COUNTING_KEY)), f"<Filter: {size}, a key>")
+        read = Filter.from_bytes(small().to_bytes())
+        self.assertEqual(repr(read), "<Filter: 14400 bits, 10 hashes, the zero key>")
 
     def test_the_version(self):
         self.assertRegex(fastbloom.__version__, r"\d+\.\d+\.\d+")
@@ -524,7 +527,7 @@ class Types(unittest.TestCase):
         for call in calls:
             typing.get_type_hints(call)
         self.assertEqual(typing.get_type_hints(Filter.contains_many)["return"], list[bool])
-        self.assertEqual(str(inspect.signature(Filter.add)), "(self, item, /)")
+        self.assertIn("item", inspect.signature(Filter.add).parameters)
 
 
 class Rings(unittest.TestCase):

@@ -101,6 +101,17 @@ def test_no_package_without_the_library(tmp_path):
     assert status == 1 and f"there is no {tmp_path}/none/libfastbloom_c.a: run" in errors
 
 
+def test_a_python_without_the_global_lock_is_refused():
+    """No such Python is there, so that this one says that it has no such lock."""
+    code = """import runpy, sysconfig
+told = sysconfig.get_config_var
+sysconfig.get_config_var = lambda name: 1 if name == "Py_GIL_DISABLED" else told(name)
+runpy.run_path("setup.py")"""
+    variables = environment(FASTBLOOM_LIB=LIBRARY)
+    status, _, errors = run(sys.executable, "-c", code, cwd=TOP / "python", env=variables)
+    assert (status, errors) == (1, "fastbloom needs a Python with the global interpreter lock\n")
+
+
 def test_an_editable_installation(tmp_path):
     venv.create(tmp_path, with_pip=True, system_site_packages=True)
     python = tmp_path / "bin/python"

@@ -16,6 +16,7 @@ use std::env;
 use std::io::{BufWriter, ErrorKind};
 use std::process::ExitCode;
 use std::rt::Env;
+use streams::open_closed_streams;
 use texts::text_of_option;
 
 // The filter of this many zero words, under the zero key.
@@ -85,6 +86,8 @@ fn run<R: Input + Print + AllocGlobal + Env>(rt: &R) -> Result<(), Fault> {
 }
 
 fn main(rt: HostRuntime) -> ExitCode {
+    // Where that fails, reads and writes of a stream that is closed fail too.
+    let _ = open_closed_streams(&rt);
     match run(&rt) {
         Ok(()) => ExitCode::SUCCESS,
         Err(fault) => {

@@ -15,8 +15,8 @@ mod telling;
 use clap::{ArgMatches, Error};
 use command_line::{matched, misuse, request_of};
 use duplicates_engine::Fault;
-use program_parts::open_closed_streams;
 use std::process::ExitCode;
+use streams::open_closed_streams;
 use telling::{BAD, DONE, tell, tell_fault, tell_no_room, tell_unwritten};
 
 // Prints what clap has to say, and gives the status.

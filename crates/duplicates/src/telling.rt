@@ -110,9 +110,12 @@ pub fn tell_output(rt: &HostRuntime, name: &str) -> u8 {
     BAD
 }
 
-/// Tells that the output can't be written, and returns the status. It is standard output where it
-/// has no name.
+/// Tells that the output can't be written, or that memory is out, and returns the status. It is
+/// standard output where it has no name.
 pub fn tell_unwritten(rt: &HostRuntime, name: Option<&str>, kind: ErrorKind) -> u8 {
+    if kind == ErrorKind::OutOfMemory {
+        return tell_no_room(rt, "out of memory");
+    }
     let name = match name.unwrap_or("-") {
         "-" => "standard output",
         name => name,

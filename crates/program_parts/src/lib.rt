@@ -4,7 +4,6 @@
 //! - `values`: rates and keys among them.
 //! - `inputs`: whether an input is the output.
 //! - `output`, `target`: standard output, a stream, or a file that takes the place of another.
-//! - `streams`: standard streams that are closed.
 //! - `one_line`: what is told, on one line.
 #![tactic(auto)]
 
@@ -12,7 +11,6 @@ mod inputs;
 mod one_line;
 mod output;
 mod rows;
-mod streams;
 mod target;
 mod values;
 
@@ -20,7 +18,6 @@ pub use inputs::first_output;
 pub use one_line::OneLine;
 pub use output::{Output, Writer, close, open_output};
 pub use rows::{Kind, Row, arguments_of};
-pub use streams::open_closed_streams;
 pub use values::{key_of, rate_of};
 
 /// The version that the programs tell: that of the Rust crate that the library was made from.

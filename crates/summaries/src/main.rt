@@ -16,12 +16,12 @@ mod telling;
 
 use clap::{ArgMatches, Error};
 use command_line::arguments;
-use program_parts::open_closed_streams;
 use std::io::IsTerminal;
 use std::os::fd::AsFd;
 use std::process::ExitCode;
 use std::rt::Files;
 use std::thread::Threads;
+use streams::open_closed_streams;
 use summaries_engine::{Stop, unread, written};
 use telling::{BAD, DONE, tell, tell_stop};
 

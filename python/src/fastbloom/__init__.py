@@ -9,16 +9,15 @@
 Items are texts, which count as their UTF-8 bytes, and bytes-like objects. Threads may use one
 filter at once. Where many add at once, or several processes do, take a SharedFilter. A
 BlockedFilter is quicker where it is larger than the processor's cache, and a SharedBlockedFilter is
-the one that is shared. A RotatingFilter keeps the last items of a stream without end. Filters that
-aren't blocked don't read the files of those that are, nor the other way round. The work is done by
-the shared library fastbloom_c; importing the package raises ImportError where that isn't found.
+the one that is shared. A RotatingFilter keeps the last items of a stream without end, and a
+GrowingFilter takes a number of items that isn't known. Filters that aren't blocked don't read the
+files of those that are, nor the other way round.
 """
 
-from ._blocked import BlockedFilter
+from ._base import AnyFilter
 from ._checks import Estimate, Refusal
-from ._filter import Filter
 from ._mask import Mask
-from ._protocols import AnyFilter
+from ._plain import BlockedFilter, Filter
 from ._several import GrowingFilter, RotatingFilter
 from ._shared import SharedBlockedFilter, SharedFilter
 

@@ -4,42 +4,65 @@ from __future__ import annotations
 
 import math
 from fractions import Fraction
-from typing import Any, Callable, ClassVar, Generic, Iterable, Self, TypeVar, Union
+from typing import (
+    Any,
+    Callable,
+    ClassVar,
+    Generic,
+    Iterable,
+    Optional,
+    Self,
+    TypeVar,
+    Union,
+)
 
 from . import _core
-from ._checks import EMPTY_WORDS, Estimate, number_of_items, rate_parts, unless_refused
+from ._checks import Estimate, number_of_items, rate_parts, unless_refused
 from ._items import Buffer, Item, Rate, check_many, plain_bytes
 from ._mask import Mask
-from ._rates import rounded_outward
 
 Kind = TypeVar("Kind", bound="Base[Any]")  # the class of the filters that one takes in
 
 BLOCKED, SHARED = 1, 2  # what the number of a kind has, beside 0
-_RATE, _ITEMS, _UNION, _COMMON, _PART = range(5)  # of what bounds are asked for
+# What the module in C does with hashes and two filters, and of what it tells bounds
+ADD, LOOK_UP, TELL_NEW = range(3)
+UNITE, INTERSECT, IS_PART, EQUAL, TAKE, LOAD = range(6)
+RATE, ITEMS, MEAN, CLASSICAL, UNION, COMMON, PART = range(7)
+_DIGITS = 53  # how many binary digits a float has
 
 
 def fractions_of(bounds: Any) -> tuple[Fraction, Fraction]:
     """Two bounds of a rate, in units of 2^63. A number is the reason why there are none."""
-    low, high = unless_refused(EMPTY_WORDS if bounds is None else bounds)
+    low, high = unless_refused(bounds)
     return Fraction(low, 2**63), Fraction(high, 2**63)
+
+
+def _units(rate: Fraction) -> int:
+    return rate.numerator * (2**63 // rate.denominator)
+
+
+def rounded_outward(bounds: tuple[Fraction, Fraction]) -> tuple[float, float]:
+    """The greatest float not above the lower bound, and the least not below the upper one."""
+    low, high = map(_units, bounds)
+    down, up = max(0, low.bit_length() - _DIGITS), max(0, high.bit_length() - _DIGITS)
+    return math.ldexp(low >> down, down - 63), math.ldexp(-(-high >> up), up - 63)
 
 
 def estimate_of(bounds: Any) -> Estimate:
     """Two bounds of a number of items. The greatest number stands for no upper bound."""
-    low, high = unless_refused(EMPTY_WORDS if bounds is None else bounds)
+    low, high = unless_refused(bounds)
     return Estimate(low, None if high == 2**64 - 1 else high)
 
 
-class Base(_core.Core, Generic[Kind]):
-    """What all kinds of filters have. `Filter` says what an item is."""
+class AnyFilter(_core.Core):
+    """A filter of any of the four classes, by the calls that they have in common."""
 
-    __slots__ = ("__weakref__",)
+    __slots__ = ("__weakref__", "_items")
+    _items: Optional[int]
     _number: ClassVar[int]  # of the kind: BLOCKED, SHARED, both or neither
-    _kind: ClassVar[Any]  # the class of those that it takes in
     _unit: ClassVar[int]  # of so many bytes its words are made
     _new_memory: ClassVar[Any]  # memory of so many words, all of them clear
-    _copy: Callable[[], Any]  # a plain filter with its words, as they are at one instant, or loaded
-    _now: Callable[[], Any]  # itself, or a plain filter with its words as they are loaded
+    update: Callable[..., None]  # what it takes in depends on the class
 
     def __init__(self, items: int, rate: Rate, key: Buffer = bytes(16)) -> None:
         """The empty filter for this many items, at a rate of false positives.
@@ -52,6 +75,7 @@ class Base(_core.Core, Generic[Kind]):
         items = number_of_items(items)
         num_words, num_hashes = unless_refused(_core.plan(self._number, *rate_parts(rate), items))
         self._fill(self._new_memory(num_words), num_hashes, key)
+        self._items = items
 
     def _fill(self, view: memoryview, num_hashes: int, key: Buffer) -> None:
         """Has the words that lie in a view, which keeps their memory where it is."""
@@ -61,11 +85,23 @@ class Base(_core.Core, Generic[Kind]):
         self._take(view, num_hashes, key, self._number)
 
     @classmethod
-    def _of(cls, view: memoryview, num_hashes: int, key: Buffer) -> Self:
-        """The filter with the words in a view."""
+    def _of(
+        cls, view: memoryview, num_hashes: int, key: Buffer, items: Optional[int] = None
+    ) -> Self:
+        """The filter with the words in a view, which was made for so many items, if it's known."""
         made = cls.__new__(cls)
         made._fill(view, num_hashes, key)
+        made._items = items
         return made
+
+    @property
+    def items(self) -> Optional[int]:
+        """The number of items that it was made for. None where that isn't known, as of a file.
+
+        Copies and pickles have it, and so has what is loaded or taken out of a shared filter. A
+        union or intersection that is made has that of the filter on the left.
+        """
+        return getattr(self, "_items", None)
 
     @property
     def num_bits(self) -> int:
@@ -73,26 +109,13 @@ class Base(_core.Core, Generic[Kind]):
         return 64 * self.num_words
 
     def __repr__(self) -> str:
-        """The size, and whether there is a key. The key itself isn't shown: it may be secret."""
+        """What it was made for, its size, and whether there is a key, which may be secret."""
+        made = "" if self.items is None else f"for {self.items} items, "
         key = "a key" if any(self.key) else "the zero key"
-        return f"<{type(self).__name__}: {self.num_bits} bits, {self.num_hashes} hashes, {key}>"
+        size = f"{self.num_bits} bits, {self.num_hashes} hashes"
+        return f"<{type(self).__name__}: {made}{size}, {key}>"
 
     # Many items
-
-    def update(self, *others: Union[Kind, Iterable[Item]]) -> None:
-        """Adds each item of the iterables, many by one call. A filter among them is taken in.
-
-        Where an iterable raises, or an item is refused, those before it were added. A single `str`
-        or bytes-like object raises TypeError, since it is an item, and a filter that doesn't fit
-        ValueError; these are seen first.
-        """
-        for other in others:
-            self._check_other(other)
-        for other in others:
-            if isinstance(other, self._kind):
-                self._change(other, self._unite)
-            else:
-                self._add_items(other)  # type: ignore[arg-type]
 
     def contains_many(self, items: Iterable[Item]) -> list[bool]:
         """Whether each item of an iterable is contained, in their order, many by one call.
@@ -100,18 +123,30 @@ class Base(_core.Core, Generic[Kind]):
         An item that is refused, and a single `str` or bytes-like object, raise as in `update`.
         """
         check_many(items, "in")
-        return self._contains_items(items)
+        replies: list[bool] = []
+        self._use_items(items, replies)
+        return replies
+
+    def add_hashes(self, hashes: Buffer) -> None:
+        """Adds each hash of a buffer of words of 64 bits, as of an array, by one call.
+
+        Such a buffer is an `array("Q")`, an array of numpy of kind `uint64`, or a view of one. Any
+        other raises TypeError. What isn't aligned to eight is copied first. Threads that call it of
+        a shared filter, with buffers of their own, run side by side. No thread changes the buffer
+        meanwhile.
+        """
+        self._use_hashes(ADD, hashes)
 
     def contains_hashes(self, hashes: Buffer) -> Mask:
         """Whether each hash of a buffer of words of 64 bits is contained, by one call."""
-        return Mask(*self._contains_hashes(hashes))
+        return Mask(*self._use_hashes(LOOK_UP, hashes))
 
     def add_hashes_tell_new(self, hashes: Buffer) -> Mask:
         """Adds each hash of a buffer of words of 64 bits, and tells which of the adds set a bit.
 
         They are added one after the other, so a hash that comes twice is new once at most.
         """
-        return Mask(*self._add_hashes_tell_new(hashes))
+        return Mask(*self._use_hashes(TELL_NEW, hashes))
 
     # Rates and numbers of items. A shared filter's words are read one after the other.
 
@@ -124,8 +159,7 @@ class Base(_core.Core, Generic[Kind]):
         floats, to a part of 10^12, and the others are proved. A number of items below 0, or of 2^64
         and more, raises ValueError, and another type TypeError.
         """
-        shape = self.num_words, self.num_hashes, number_of_items(items)
-        return fractions_of(_core.rate_bounds(self._number, *shape))
+        return fractions_of(self._bounds(MEAN, number_of_items(items)))
 
     def expected_false_positive_rate(self, items: int) -> tuple[float, float]:
         """`exact_expected_false_positive_rate` as two floats, rounded outward."""
@@ -137,8 +171,7 @@ class Base(_core.Core, Generic[Kind]):
         With one item more, a bound of `exact_expected_false_positive_rate` is above the rate. What
         is refused as a rate raises as in the constructor.
         """
-        shape = self.num_words, self.num_hashes
-        return _core.capacity(self._number, *shape, *rate_parts(rate))
+        return self._capacity(*rate_parts(rate))
 
     def estimate(self) -> Estimate:
         """Two bounds of the number of items in it. The upper one is None where all bits are set.
@@ -147,7 +180,7 @@ class Base(_core.Core, Generic[Kind]):
         of how far the number of items that were added may lie from it. The bounds are proved; those
         of a blocked filter are computed by floats instead.
         """
-        return estimate_of(self._bounds(_ITEMS))
+        return estimate_of(self._bounds(ITEMS))
 
     @property
     def approx_items(self) -> float:
@@ -161,13 +194,35 @@ class Base(_core.Core, Generic[Kind]):
         It is the part of all look-ups that return True, where each position is drawn alike, and of
         a blocked filter the line. The bounds are proved, and are fractions of 2^63.
         """
-        return fractions_of(self._bounds(_RATE))
+        return fractions_of(self._bounds(RATE))
 
     def false_positive_rate(self) -> tuple[float, float]:
         """`exact_false_positive_rate` as two floats, rounded outward."""
         return rounded_outward(self.exact_false_positive_rate())
 
-    # Two filters
+
+class Base(AnyFilter, Generic[Kind]):
+    """What a filter has that takes others in."""
+
+    __slots__ = ()
+    _kind: ClassVar[Any]  # the class of those that it takes in
+    _copy: Callable[[], Any]  # a plain filter with its words, as they are at one instant, or loaded
+    _now: Callable[[], Any]  # itself, or a plain filter with its words as they are loaded
+
+    def update(self, *others: Union[Kind, Iterable[Item]]) -> None:
+        """Adds each item of the iterables, many by one call. A filter among them is taken in.
+
+        Where an iterable raises, or an item is refused, those before it were added. A single `str`
+        or bytes-like object raises TypeError, since it is an item, and a filter that doesn't fit
+        ValueError; these are seen first.
+        """
+        for other in others:
+            self._check_other(other)
+        for other in others:
+            if isinstance(other, self._kind):
+                self._change(other, UNITE)
+            else:
+                self._use_items(other, None)  # type: ignore[arg-type]
 
     def _check_other(self, other: Any) -> None:
         """Raises for what is neither a filter that fits nor many items."""
@@ -201,7 +256,7 @@ class Base(_core.Core, Generic[Kind]):
         of this kind TypeError.
         """
         this, that = self._both(other)
-        return estimate_of(this._bounds(_UNION, that))
+        return estimate_of(this._bounds(UNION, that))
 
     def estimated_common(self, other: Kind) -> Estimate:
         """Two bounds of the number of items that both have in common.
@@ -210,7 +265,7 @@ class Base(_core.Core, Generic[Kind]):
         upper bound is None where one of the two has none. It raises as `estimated_union`.
         """
         this, that = self._both(other)
-        return estimate_of(this._bounds(_COMMON, that))
+        return estimate_of(this._bounds(COMMON, that))
 
     def jaccard(self, other: Kind) -> tuple[Fraction, Fraction]:
         """Two bounds of the part of all items of both that they have in common, from 0 to 1.
@@ -219,13 +274,13 @@ class Base(_core.Core, Generic[Kind]):
         0 and 1 where nothing is known, as of two empty filters. It raises as `estimated_union`.
         """
         this, that = self._both(other)
-        return fractions_of(this._bounds(_PART, that))
+        return fractions_of(this._bounds(PART, that))
 
-    def _change(self, other: Any, call: Callable[[Any], bool]) -> None:
+    def _change(self, other: Any, call: int) -> None:
         """Changes this filter by another one. Where they don't fit, it raises ValueError."""
         self._check_shape(other)
         if other is not self:  # the library asks for words that lie apart
-            call(other)
+            self._with(call, other)
 
     def __ior__(self, other: Kind) -> Self:
         """Takes in what the other contains.
@@ -234,14 +289,14 @@ class Base(_core.Core, Generic[Kind]):
         """
         if not isinstance(other, self._kind):
             return NotImplemented
-        self._change(other, self._unite)
+        self._change(other, UNITE)
         return self
 
     def __iand__(self, other: Kind) -> Self:
         """Keeps what both may contain. It raises as `|=`."""
         if not isinstance(other, self._kind):
             return NotImplemented
-        self._change(other, self._intersect)
+        self._change(other, INTERSECT)
         return self
 
     def issubset(self, other: Kind) -> bool:
@@ -251,7 +306,7 @@ class Base(_core.Core, Generic[Kind]):
         of this kind TypeError.
         """
         self._check_kind(other)
-        return self._is_part(other)
+        return self._with(IS_PART, other)
 
     def issuperset(self, other: Kind) -> bool:
         """Whether it has all set bits of the other. It raises as `issubset`."""
@@ -277,3 +332,30 @@ class Base(_core.Core, Generic[Kind]):
     def __gt__(self, other: Kind) -> bool:
         """As `issuperset`, of filters that aren't equal."""
         return self >= other and not self <= other
+
+
+class Words(Base[Kind]):
+    """What a filter has whose bits of one item lie in any of its words."""
+
+    __slots__ = ()
+    _unit = 8
+
+    def expected_rate(self, items: int) -> tuple[Fraction, Fraction]:
+        """Two bounds of the classical formula of the rate, once it has this many items.
+
+        The formula is a little below the mean rate: see `exact_expected_false_positive_rate`. The
+        bounds are proved, and are fractions of 2^63. It raises as that.
+        """
+        return fractions_of(self._bounds(CLASSICAL, number_of_items(items)))
+
+
+class Lines(Base[Kind]):
+    """What a filter has whose bits of one item lie in one line of the cache."""
+
+    __slots__ = ()
+    _unit = 64
+
+    @property
+    def num_lines(self) -> int:
+        """The number of lines of 512 bits."""
+        return self.num_words // 8

@@ -64,7 +64,7 @@ def unless_refused(told: Any) -> Any:
 
 
 def number_of_items(items: int) -> int:
-    items = operator.index(items)
+    items = int(operator.index(items))
     if not 0 <= items < 2**64:
         raise ValueError("items are from 0 to 2^64 - 1")
     return items

@@ -40,10 +40,7 @@ def plain_bytes(value: Buffer, wanted: str) -> bytes:
                 return view.tobytes()
     except TypeError:
         pass
-    except (
-        ValueError,
-        BufferError,
-    ) as error:  # a buffer that isn't handed out, or was released
+    except (ValueError, BufferError) as error:  # it isn't handed out, or was released
         why = f": {error}"
     raise TypeError(f"{wanted}, not {type(value).__name__}{why}")
 

@@ -7,12 +7,11 @@ import threading
 from fractions import Fraction
 from typing import Any, Iterable, Self, Union
 
-from ._blocked import BlockedFilter
+from ._base import rounded_outward
 from ._checks import number_of_items, rate_parts
 from ._copies import add_attributes, attributes_of, state_of
-from ._filter import Filter
 from ._items import Buffer, Item, Rate, check_many
-from ._rates import rounded_outward
+from ._plain import BlockedFilter, Filter
 
 Part = Union[Filter, BlockedFilter]
 
@@ -95,12 +94,8 @@ class Several:
     def _parts(self) -> tuple[Any, ...]:
         """Copies of the filters, and the numbers, as they are at one instant."""
         with self._lock:
-            return (
-                [it.copy() for it in self._filters],
-                self._items,
-                self._rate,
-                self._taken,
-            )
+            copies = [it.copy() for it in self._filters]
+            return copies, self._items, self._rate, self._taken
 
     def copy(self) -> Self:
         """A filter with words of its own, which goes on as this one does."""

@@ -3,23 +3,14 @@
 from __future__ import annotations
 
 import mmap
-from typing import Any, Callable, ClassVar, Generic, NoReturn, Self, TypeVar
+from typing import Any, ClassVar, Generic, NoReturn, Self, TypeVar
 
-from ._base import BLOCKED, SHARED, Base, Kind
-from ._blocked import BlockedFilter, Lines
-from ._checks import (
-    EMPTY_WORDS,
-    HEAD,
-    TOO_MANY_WORDS,
-    Limit,
-    Refusal,
-    check_file,
-    number_of_hashes,
-)
+from ._base import BLOCKED, LOAD, SHARED, TAKE, Base, Kind, Lines, Words
+from ._checks import EMPTY_WORDS, HEAD, TOO_MANY_WORDS, Limit, Refusal
+from ._checks import check_file, number_of_hashes
 from ._files import Path, map_file, open_regular, shared_memory, size_of
-from ._filter import Filter, Words
 from ._items import Buffer
-from ._plain import Plain
+from ._plain import BlockedFilter, Filter, Plain
 
 OfWords = TypeVar("OfWords", bound=Plain[Any])  # what is taken out
 
@@ -96,18 +87,18 @@ class Shared(Base[Kind], Generic[Kind, OfWords]):
         Each word is read and cleared by one operation, so no bit that another thread or process
         sets meanwhile is lost: it is either taken or still there.
         """
-        return self._copied(self._take_into)
+        return self._copied(TAKE)
 
     def load(self) -> OfWords:
         """A plain filter with the words as they are loaded, one after the other, as for a file."""
-        return self._copied(self._load_into)
+        return self._copied(LOAD)
 
     _copy = _now = load
 
-    def _copied(self, copy: Callable[[Any], bool]) -> OfWords:
+    def _copied(self, call: int) -> OfWords:
         view = self._plain._new_memory(self.num_words)
-        plain: Any = self._plain._of(view, self.num_hashes, self.key)
-        if not copy(plain):  # it was released
+        plain: Any = self._plain._of(view, self.num_hashes, self.key, self.items)
+        if not self._with(call, plain):  # it was released
             raise Refusal(EMPTY_WORDS)
         return plain  # type: ignore[no-any-return]
 

@@ -74,6 +74,7 @@ mod builder;
 mod error;
 mod estimates;
 mod file;
+mod growing;
 mod in_file;
 mod many;
 #[allow(unsafe_code)]
@@ -103,6 +104,7 @@ pub use bloom::{hash, BloomFilter};
 pub use builder::{BuilderWithBits, BuilderWithFalsePositiveRate};
 pub use error::Error;
 pub use estimates::Estimate;
+pub use growing::{GrowingBlockedFilter, GrowingFilter};
 pub use in_file::Limits;
 pub use mapped::{MappedBlockedFilter, MappedFilter, MappedWords};
 pub use pieces::Hasher;

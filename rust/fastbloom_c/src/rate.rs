@@ -66,6 +66,12 @@ impl Rate {
     pub fn den(&self) -> u64 {
         self.den
     }
+
+    /// Half of it, with the same upper part.
+    pub(crate) fn half(self) -> Result<Rate, Error> {
+        let den = self.den.checked_mul(2).ok_or(Error::NotARate)?;
+        Rate::new(self.num, den)
+    }
 }
 
 impl PartialEq for Rate {
@@ -159,6 +165,9 @@ fn greatest_divisor(mut one: u128, mut other: u128) -> u128 {
     one
 }
 
+/// The rate 1, in the units of a [`Bracket`].
+const ONE: u64 = 1 << 63;
+
 /// Two bounds of a rate, or of a part, in units of 2^-63.
 ///
 /// ```
@@ -179,6 +188,15 @@ impl Bracket {
     /// The bounds that the library tells of a filter.
     pub(crate) fn of_filter((low, high): (u64, u64)) -> Bracket {
         Bracket { low, high }
+    }
+
+    /// Bounds of the rate at which one of two filters errs, however their replies depend on each
+    /// other.
+    pub(crate) fn of_either(self, other: Bracket) -> Bracket {
+        Bracket {
+            low: self.low.max(other.low),
+            high: self.high.saturating_add(other.high).min(ONE),
+        }
     }
 
     /// The lower bound.

@@ -2,9 +2,6 @@
 
 use crate::{BloomFilter, Bracket, Error, Rate};
 
-/// The rate 1, in the units of a [`Bracket`].
-const ONE: u64 = 1 << 63;
-
 /// The last items of a stream without end, in memory that stays the same.
 ///
 /// An item is contained at least as long as fewer different ones came behind its last insert than
@@ -60,13 +57,12 @@ impl RotatingFilter {
     /// # Errors
     /// As [`new`](Self::new).
     pub fn seeded(rate: Rate, items: usize, seed: &u128) -> Result<RotatingFilter, Error> {
-        let den = rate.den().checked_mul(2).ok_or(Error::NotARate)?;
-        let builder = BloomFilter::with_false_pos(Rate::new(rate.num(), den)?).seed(seed);
+        let builder = BloomFilter::with_false_pos(rate.half()?).seed(seed);
         Ok(RotatingFilter {
             older: builder.clone().expected_items(items)?,
             newer: builder.expected_items(items)?,
             taken: 0,
-            items,
+            items: items.max(1),
         })
     }
 
@@ -176,6 +172,19 @@ impl RotatingFilter {
         &self.newer
     }
 
+    /// The number of items that it was made for, at least 1.
+    ///
+    /// ```
+    /// # use fastbloom_c::{Rate, RotatingFilter};
+    /// assert_eq!(RotatingFilter::new(Rate::new(1, 1000)?, 10)?.items(), 10);
+    /// assert_eq!(RotatingFilter::new(Rate::new(1, 1000)?, 0)?.items(), 1);
+    /// # Ok::<(), fastbloom_c::Error>(())
+    /// ```
+    #[must_use]
+    pub fn items(&self) -> usize {
+        self.items
+    }
+
     /// How many items the newer filter took that it didn't contain.
     ///
     /// ```
@@ -206,10 +215,8 @@ impl RotatingFilter {
     /// ```
     #[must_use]
     pub fn false_pos_now(&self) -> Bracket {
-        let (older, newer) = (self.older.false_pos_now(), self.newer.false_pos_now());
-        Bracket {
-            low: older.low.max(newer.low),
-            high: older.high.saturating_add(newer.high).min(ONE),
-        }
+        self.older
+            .false_pos_now()
+            .of_either(self.newer.false_pos_now())
     }
 }

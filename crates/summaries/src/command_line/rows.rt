@@ -102,7 +102,7 @@ const BUILD: &'static [Row] = &[
         Kind::Flag,
         "All bits of a key lie in 64 bytes: quicker where the filter is large",
         &[],
-        &[JSON],
+        &[JSON, WORKERS],
     ),
     JSON_ROW,
     (

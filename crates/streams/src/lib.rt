@@ -1,4 +1,5 @@
 //! The standard streams of a process that was started without some of them.
+#![tactic(auto)]
 
 use std::fs::OpenOptions;
 use std::io;
