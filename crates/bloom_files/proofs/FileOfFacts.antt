@@ -113,9 +113,9 @@ is_file-turned_word : IsFileOf Whole
     (head_with its_seal (low 0) (low 0) ++ 16 ∷ 128 ∷ 0 ∷ 128 ∷ 64 ∷ 0 ∷ 20 ∷ 0 ∷ []) crabs → ⊥
 is_file-turned_word = other _ 64 (λ same. omega (arith, same)) (λ same. omega (arith, same))
 
--- nor where the key's words are swapped
-is_file-swapped_key : IsFileOf Whole
-    (first ++ low 3 ++ low 1 ++ key_last ++ key_first ++ its_seal ++ low 0 ++ low 0 ++ its_word)
+-- nor where the key's words are swapped, which without a seal is a good file of another filter
+pub is_file-swapped_key : IsFileOf Whole
+    (first ++ low 3 ++ low 1 ++ key_last ++ key_first ++ low 0 ++ low 0 ++ low 0 ++ its_word)
     crabs → ⊥
 is_file-swapped_key = other _ 24 (λ same. omega (arith, same)) (λ same. omega (arith, same))
 

@@ -1,5 +1,5 @@
--- What a reader gave that read a file, and what two filters of one file have in common: cases that
--- hold, and cases that nearly do.
+-- What a reader gave that read a file, what a writer took, and what two filters of one file have in
+-- common: cases that hold, and cases that nearly do.
 use Rattle.std.proofs.Common.{◌≡◌, ℕ, List, [], ◌∷◌, ◌++◌, length, get_or, Some, None, refl, sym, ap, subst, ◌∙◌, append-nil, arith}
 use Rattle.bloom_parts.specs.declared.hasher.CloneBuildHasher.{CloneBuildHasher}
 use Rattle.bloom_parts.specs.declared.hasher.sip.RandomDefaultHasher.{RandomDefaultHasher}
@@ -10,9 +10,9 @@ use Rattle.bloom_files.specs.declared.layout.Layout.TheVariants.{Whole}
 use Rattle.bloom_files.specs.File.{HasOwnKey, bytes_of}
 use Rattle.bloom_files.specs.FileLayouts.{refusal_in}
 use Rattle.bloom_files.specs.FileReads.{ReadsWords}
-use Rattle.bloom_files.specs.FilterFiles.{FileLaw, IsFileOf, ReadableLaw, ReadsFile, SameFileItemsLaw}
-use Rattle.bloom_files.proofs.FileFacts.{crabs, its_word, unsealed, worked}
-use Rattle.bloom_files.proofs.FileOfFacts.{is_file-longer, is_file-unsealed, is_file-worked, own_key-worked}
+use Rattle.bloom_files.specs.FilterFiles.{FileLaw, IsFileOf, ReadableLaw, ReadsFile, SameFileItemsLaw, WritesFile}
+use Rattle.bloom_files.proofs.FileFacts.{crabs, first, its_word, key_first, key_last, low, unsealed, worked}
+use Rattle.bloom_files.proofs.FileOfFacts.{is_file-longer, is_file-swapped_key, is_file-unsealed, is_file-worked, own_key-worked}
 
 -- a reader gave the worked file and is at its end
 reads-worked : ReadsFile Whole (Some worked) (Some []) crabs
@@ -30,6 +30,24 @@ reads-longer is = gave is.bytes is.taken is.is_file
     gave bytes taken is_file =
         is_file-longer
         (subst (λ l. IsFileOf Whole l crabs) (sym (taken ∙ append-nil bytes)) is_file)
+
+-- a writer that had a byte took the worked file behind it; where the byte is gone it took none
+writes-worked : WritesFile Whole (Some (7 ∷ [])) (Some (7 ∷ worked)) crabs
+    × (WritesFile Whole (Some (7 ∷ [])) (Some worked) crabs → ⊥)
+unfolding bytes_of
+writes-worked = (
+  record { bytes = worked; added = refl; is_file = is_file-worked },
+  λ is.
+      let wrong : get_or worked 0 0 ≡ 7 = ap (λ l. get_or l 0 0) is.added in
+      omega (arith, wrong),
+)
+
+-- a good file under the key with its words swapped isn't one of the filter
+writes-swapped_key : WritesFile Whole (Some [])
+    (Some (first ++ low 3 ++ low 1 ++ key_last ++ key_first ++ low 0 ++ low 0 ++ low 0 ++ its_word))
+    crabs → ⊥
+writes-swapped_key is =
+    is_file-swapped_key (subst (λ l. IsFileOf Whole l crabs) (sym is.added) is.is_file)
 
 -- a word that was read stands behind the others, and a hasher took in its bytes
 reads-word : (from to : SipState) → Takes from to its_word

@@ -1,12 +1,12 @@
 -- Files of lines, and what they have in common with files of words that are no lines, at values
 -- from outside. They were made by a program in Python (`dev/blocked-model`). The worked filter has
 -- one line, 3 hashes and the key bytes 0 to 15, and `crab` and `lobster` were inserted into it.
-use Rattle.std.proofs.Common.{◌≡◌, ℕ, List, [], ◌∷◌, ◌++◌, get_or, Some, refl, ap, arith, inr}
+use Rattle.std.proofs.Common.{◌≡◌, ℕ, List, [], ◌∷◌, ◌++◌, get_or, Some, refl, sym, ap, subst, arith, inr}
 use Rattle.bloom_parts.specs.Sip.{sip, start, round, absorb, answer, whole_words, rest}
 use Rattle.bloom_files.specs.declared.head.Head.{Head}
 use Rattle.bloom_files.specs.declared.layout.Layout.TheVariants.{Whole, Lines}
 use Rattle.bloom_files.specs.File.{bytes_of, seal_of}
-use Rattle.bloom_files.specs.FileLayouts.{AreWhole, IsFileIn, ReadsParts, file_in, layout_number, numbers_in, right_seal, sealed_file, sealed_numbers}
+use Rattle.bloom_files.specs.FileLayouts.{AreWhole, IsFileIn, ReadsParts, WritesParts, file_in, layout_number, numbers_in, right_seal, sealed_file, sealed_numbers}
 use Rattle.bloom_files.proofs.FileFacts.{first, its_head, key_first, key_last, low, worked}
 
 -- the bytes of the seal of the worked file of lines
@@ -151,3 +151,13 @@ reads-left is = cc (is.end)
 -- a reader that gave the worked file of `FileFacts` gave no lines
 reads-whole : ReadsParts Lines (Some worked) (Some []) its_head (0x1080_0080_4000_1400 ∷ []) → ⊥
 reads-whole is = is_file-one is.bytes is.is_file
+
+-- a writer took the worked file in lines, which isn't that of its words without lines
+writes-lines : WritesParts Lines (Some (7 ∷ [])) (Some (7 ∷ line_file)) line_head line_words
+    × (WritesParts Whole (Some []) (Some line_file) line_head line_words → ⊥)
+writes-lines = (
+  record { bytes = line_file; added = refl; is_file = is_file-lines },
+  λ is.
+      is_file-whole line_words
+      (subst (λ l. IsFileIn Whole l line_head line_words) (sym is.added) is.is_file),
+)

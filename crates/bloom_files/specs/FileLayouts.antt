@@ -3,7 +3,7 @@
 -- set a head and its seal are those of `File`. The numbers of the layouts and the order of the
 -- reasons are this project's choice.
 use Rattle.std.specs.Prelude.{◌≡◌, ◌⊎◌, ℕ, ◌%◌, ◌^◌, ◌<◌, List, [], ◌∷◌, ◌++◌, length, take, drop, not, nat_eq, if◌then◌else◌, Option, Some, None, IfSome, ⊤}
-use Rattle.std.specs.Io.KnownBytes.{Consumes, IsAtEnd}
+use Rattle.std.specs.Io.KnownBytes.{Appends, Consumes, IsAtEnd}
 use Rattle.std.specs.Option.{option_or}
 use Rattle.bloom_parts.specs.Sip.{sip}
 use Rattle.bloom_files.specs.declared.error.FileError.{FileError}
@@ -121,3 +121,10 @@ pub record ReadsParts (layout : Layout) (old new : Option (List ℕ)) (head : He
   pub taken : Consumes old new bytes
   pub is_file : IsFileIn layout bytes head words
   pub end : IsAtEnd new
+
+-- from old to new a writer took a file of a head and words
+pub record WritesParts (layout : Layout) (old new : Option (List ℕ)) (head : Head)
+    (words : List ℕ) : Type 0 where
+  pub bytes : List ℕ
+  pub added : Appends old new bytes
+  pub is_file : IsFileIn layout bytes head words

@@ -1,7 +1,7 @@
 -- The file of a filter of either kind, and the laws of files. The form and the order of the reasons
 -- are this project's choice.
 use Rattle.std.specs.Prelude.{◌≡◌, ℕ, List, Option, Some, None}
-use Rattle.std.specs.Io.KnownBytes.{Consumes, IsAtEnd}
+use Rattle.std.specs.Io.KnownBytes.{Appends, Consumes, IsAtEnd}
 use Rattle.bloom_parts.specs.Keys.{key_of}
 use Rattle.bloom_parts.specs.declared.hasher.CloneBuildHasher.{CloneBuildHasher}
 use Rattle.bloom_parts.specs.declared.hasher.sip.RandomDefaultHasher.{RandomDefaultHasher}
@@ -29,6 +29,13 @@ pub record ReadsFile (layout : Layout) (old new : Option (List ℕ)) (f : Defaul
     pub taken : Consumes old new bytes
     pub is_file : IsFileOf layout bytes f
     pub end : IsAtEnd new
+
+-- from old to new a writer took a file of the filter
+pub record WritesFile (layout : Layout) (old new : Option (List ℕ)) (f : DefaultFilter) : Type 0
+  where
+    pub bytes : List ℕ
+    pub added : Appends old new bytes
+    pub is_file : IsFileOf layout bytes f
 
 -- two blocked filters have equal words, numbers of hashes and keys, and contain the same hashes
 pub record AnswerAlikeInLines (f g : DefaultFilter) : Type 0 where

@@ -9,7 +9,7 @@ ghost use Rattle.bloom_files.specs.declared.layout.Layout.{Layout as ALayout};
 ghost use Rattle.bloom_files.specs.File.{FitsWords, HasOwnKey, head_of};
 ghost use Rattle.bloom_files.specs.FileLayouts.{AreWhole, IsReadIn, IsRefusedIn};
 ghost use Rattle.bloom_files.specs.FileReads.{FailsEarly};
-ghost use Rattle.bloom_files.specs.FilterFiles.{IsFileOf, ReadsFile, file_of};
+ghost use Rattle.bloom_files.specs.FilterFiles.{IsFileOf, ReadsFile, WritesFile, file_of};
 
 use crate::bytes::{parts_from_bytes, parts_to_bytes};
 use crate::error::FileError;
@@ -93,7 +93,8 @@ pub trait FilterFile: Drop {
     where
         Self: Sized,
         // What is written reads back.
-        ensures file { IsFileOf layout (file_of layout (seen self.now)) (seen self.now) }
+        ensures file { OnOk result (WritesFile layout
+            (W.contents output.old) (W.contents output.new) (seen self.now)) }
         ensures whole { OnOk result (Appends (W.contents output.old) (W.contents output.new)
             (file_of layout (seen self.now))) }
         ensures part { OnErr result (AppendsPart (file_of layout (seen self.now))

@@ -6,7 +6,7 @@ ghost use Rattle.std.specs.Io.KnownBytes.{Appends, Consumes, IsAtEnd};
 ghost use Rattle.lines.specs.Writing.{AppendsPart};
 ghost use Rattle.bloom_files.specs.declared.layout.Layout.{Layout as ALayout};
 ghost use Rattle.bloom_files.specs.File.{bytes_of};
-ghost use Rattle.bloom_files.specs.FileLayouts.{AreWhole, IsFileIn, IsReadIn, IsReportedIn, ReadsParts, sealed_file};
+ghost use Rattle.bloom_files.specs.FileLayouts.{AreWhole, IsReadIn, IsReportedIn, ReadsParts, WritesParts, sealed_file};
 ghost use Rattle.bloom_files.specs.FileReads.{AsksAsGiven, FailsEarly, FailsWithin, Gives, ReadsWords, StopsEnd, StopsWords};
 ghost use Rattle.bloom_files.specs.FileRefusals.{head_refusal};
 ghost use Rattle.bloom_plain.specs.Filter.{IsShape};
@@ -188,10 +188,11 @@ pub fn write_parts<W: Write>(
     head: &Head,
     words: &[u64],
 ) -> io::Result<()>
-    requires count { length words.now ≡ head.now.num_words }
-    requires shape { IsShape (length words.now) head.now.num_hashes }
-    requires whole { AreWhole layout (length words.now) }
-    ensures file { IsFileIn layout (sealed_file layout head.now words.now) head.now words.now }
+    // A head that tells of these words, in a number that may lie so, has a file, which reads back.
+    ensures file { length words.now ≡ head.now.num_words
+        → IsShape (length words.now) head.now.num_hashes → AreWhole layout (length words.now)
+        → OnOk result (WritesParts layout
+        (W.contents output.old) (W.contents output.new) head.now words.now) }
     ensures whole { OnOk result (Appends (W.contents output.old) (W.contents output.new)
         (sealed_file layout head.now words.now)) }
     ensures part { OnErr result (AppendsPart (sealed_file layout head.now words.now)

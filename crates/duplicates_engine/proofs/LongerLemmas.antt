@@ -6,7 +6,7 @@ use Rattle.std.proofs.lemmas.List.Elements.{filter-append}
 use Rattle.std.proofs.lemmas.List.Filters.{length-filter_both}
 use Rattle.std.proofs.lemmas.Map.Made.{distinct_count-le}
 use Rattle.std.specs.Str.{bytes_eq}
-use Rattle.duplicates_engine.specs.Choices.{LastLinesLaw}
+use Rattle.duplicates_engine.specs.Choices.{AllLinesLaw, LastLinesLaw}
 use Rattle.duplicates_engine.specs.Longer.{is_longer, longer_lines, short_lines}
 
 -- one more in front of a sum
@@ -65,6 +65,10 @@ pub short-short : (longest : ℕ) (line : List ℕ) (lines : List (List ℕ)) �
 short-short longest line lines short =
     ap (λ b. cond (not b) (line ∷ short_lines longest lines) (short_lines longest lines))
     (not-longer longest line short)
+
+-- a sieve of no span tells of every line before
+pub all-lines : AllLinesLaw
+all-lines longest lines place is earlier before = is earlier before tt
 
 -- fewer different lines came between than lines
 pub last-lines : LastLinesLaw

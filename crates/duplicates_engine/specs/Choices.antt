@@ -1,6 +1,6 @@
 -- Which lines a run writes, in words of lines alone: neither the sieve nor its replies are named.
 -- An index is the number of a line among all lines of all inputs, from 0 on.
-use Rattle.std.specs.Prelude.{◌≡◌, ◌≢◌, ◌⊎◌, ◌<◌, ◌≤◌, ℕ, ◌+◌, Bool, true, false, List, [], length, get_or, map, filter, Option, Some}
+use Rattle.std.specs.Prelude.{◌≡◌, ◌≢◌, ◌⊎◌, ◌<◌, ◌≤◌, ℕ, ◌+◌, Bool, true, false, List, [], length, get_or, map, filter, Option, None, Some}
 use Rattle.std.specs.List.{range_with_len}
 use Rattle.std.specs.Io.KnownBytes.{Appends}
 use Rattle.lines.specs.Reading.{AreShort}
@@ -27,6 +27,11 @@ IsNewAt span longest lines place = (earlier : ℕ) → earlier < place
 -- the line at this index is longer than a line may be
 abbrev pub IsLongerAt : ℕ → List (List ℕ) → ℕ → Type 0
 IsLongerAt longest lines place = longest < length (get_or lines place [])
+
+-- a line that is new as far back as a sieve of no span tells differs from each before it
+abbrev pub AllLinesLaw : Type 0
+AllLinesLaw = (longest : ℕ) (lines : List (List ℕ)) (place : ℕ) → IsNewAt None longest lines place
+    → (earlier : ℕ) → earlier < place → get_or lines earlier [] ≢ get_or lines place []
 
 -- a line that is new as far back as a sieve tells, of a span, differs from each of so many lines
 -- before it

@@ -1,5 +1,5 @@
 //! Laws of sieves. These functions do nothing: their contracts are the laws.
-ghost use Rattle.duplicates_engine.specs.Choices.{LastLinesLaw};
+ghost use Rattle.duplicates_engine.specs.Choices.{AllLinesLaw, LastLinesLaw};
 ghost use Rattle.duplicates_engine.specs.Plain.{SiftedLaw};
 
 use bloom_plain::laws::lists_join;
@@ -12,8 +12,9 @@ pub fn plain_filter_inserts<S: BuildHasher>()
     lists_join::<S>();
 }
 
-/// A line that is new, as far back as a sieve of some span tells, differs from each of so many
-/// lines before it.
+/// A line that is new, as far back as a sieve tells, differs from each line before it; of a sieve
+/// of some span, from each of so many lines before it.
 pub fn last_lines_differ()
-    ensures { LastLinesLaw }
+    ensures all { AllLinesLaw }
+    ensures last { LastLinesLaw }
 {}

@@ -1,26 +1,18 @@
-//! Three kinds of filter, as README and docs/CALLING.md show them.
+//! Filters that threads share, as README and docs/CALLING.md show them.
 
-use fastbloom::{AtomicBloomFilter, BloomFilter, FilterError, Rate, SeatedBloomFilter};
+use fastbloom::{AtomicBloomFilter, FilterError, Rate, SeatedBloomFilter};
 use std::alloc::Global;
 use std::sync::Arc;
 
-/// One owner. Returns false and true.
-pub fn plain_filter(alloc: Global, key: &u128) -> Result<(bool, bool), FilterError> {
+/// Many threads, each with an `Arc` of the filter. Returns false and true.
+pub fn shared_filter(alloc: Global, key: &u128) -> Result<(bool, bool), FilterError> {
     let one_in_a_thousand = Rate::new(1, 1000)?;
-    let builder = BloomFilter::with_false_pos(one_in_a_thousand).seed(key);
-    let mut seen = builder.expected_items(alloc, 1_000_000)?;
-    let before = seen.insert(&"crab"); // false: it is new
-    let after = seen.contains(&"crab"); // true: it was inserted
-    Ok((before, after))
-}
-
-/// Many threads, each with an `Arc` of the filter. Returns true.
-pub fn shared_filter(alloc: Global) -> Result<bool, FilterError> {
-    let filter = AtomicBloomFilter::with_num_bits(alloc, 1 << 20)?.hashes(alloc, 7)?;
-    let mine = Arc::new(alloc, filter)?;
+    let builder = AtomicBloomFilter::with_false_pos(one_in_a_thousand).seed(key);
+    let mine = Arc::new(alloc, builder.expected_items(alloc, 1_000_000)?)?;
     let theirs = Arc::try_clone(&mine)?; // to be moved into another thread
-    theirs.insert(&"crab"); // through `&self`
-    Ok(mine.contains(&"crab")) // true
+    let before = theirs.insert(&"crab"); // false: it is new
+    let after = mine.contains(&"crab"); // true: it was inserted
+    Ok((before, after))
 }
 
 /// Many threads, each with a pass: a hash that a pass knows is found by it from then on.

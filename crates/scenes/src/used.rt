@@ -9,7 +9,7 @@ use examples::files::{load, save};
 use examples::guarded::Guarded;
 use examples::keys::drawn_key;
 use examples::lists::replies;
-use examples::readme::{plain_filter, seated_filter, shared_filter};
+use examples::readme::{seated_filter, shared_filter};
 use examples::saved::parts_of;
 use examples::sets::keep_common;
 use examples::{growing, plain, saved};
@@ -33,9 +33,8 @@ fn is_seated(alloc: Global) -> bool {
 }
 
 #[test]
-fn each_kind_of_filter_in_readme_finds_what_was_inserted(rt: HostRuntime) {
-    assert!(rt; matches!(plain_filter(rt.alloc(), &42), Ok((false, true))));
-    assert!(rt; matches!(shared_filter(rt.alloc()), Ok(true)));
+fn shared_and_seated_filters_find_what_was_inserted(rt: HostRuntime) {
+    assert!(rt; matches!(shared_filter(rt.alloc(), &42), Ok((false, true))));
     assert!(rt; is_seated(rt.alloc()));
 }
 

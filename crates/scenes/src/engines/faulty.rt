@@ -31,9 +31,8 @@ pub(crate) const SLOW: Reading = Reading {
 
 /// The same, but it fails where it would tell its end.
 pub(crate) const FAILING: Reading = Reading {
-    piece: 1,
-    interrupts: true,
     fails: Some(ErrorKind::BrokenPipe),
+    ..SLOW
 };
 
 /// Kinds of failed reads, each of which has to be reported as itself.
@@ -151,56 +150,33 @@ pub(crate) const ROOMY: Writing = Writing {
 /// A writer that takes a byte a write, with interrupted writes before each.
 pub(crate) const NARROW: Writing = Writing {
     piece: 1,
-    room: 1 << 40,
     interrupts: true,
-    takes_none: false,
-    flushes: 1 << 40,
+    ..ROOMY
 };
 
 /// A writer whose first write fails.
-pub(crate) const SHUT: Writing = Writing {
-    piece: 65536,
-    room: 0,
-    interrupts: false,
-    takes_none: false,
-    flushes: 1 << 40,
-};
+pub(crate) const SHUT: Writing = Writing { room: 0, ..ROOMY };
 
 /// A writer that takes a byte a write, with interrupted writes before each. It fails behind three
 /// bytes.
-pub(crate) const FULL: Writing = Writing {
-    piece: 1,
-    room: 3,
-    interrupts: true,
-    takes_none: false,
-    flushes: 1 << 40,
-};
+pub(crate) const FULL: Writing = Writing { room: 3, ..NARROW };
 
 /// The same, but it takes nothing behind three bytes.
 pub(crate) const STUCK: Writing = Writing {
-    piece: 1,
-    room: 3,
-    interrupts: true,
     takes_none: true,
-    flushes: 1 << 40,
+    ..FULL
 };
 
 /// A writer whose first flush fails.
 pub(crate) const UNFLUSHED: Writing = Writing {
-    piece: 65536,
-    room: 1 << 40,
-    interrupts: false,
-    takes_none: false,
     flushes: 0,
+    ..ROOMY
 };
 
 /// A writer whose second flush fails.
 pub(crate) const FLUSHED_ONCE: Writing = Writing {
-    piece: 65536,
-    room: 1 << 40,
-    interrupts: false,
-    takes_none: false,
     flushes: 1,
+    ..ROOMY
 };
 
 /// Takes bytes as its settings say.

@@ -1,9 +1,39 @@
-use Rattle.std.proofs.Common.{subst}
-use Rattle.std.specs.Prelude.{OnErr}
+use Rattle.std.proofs.Common.{◌++◌, refl, subst, inr, arith}
+use Rattle.std.proofs.KnownBytes.{Appends-trans}
+use Rattle.std.proofs.lemmas.Result.{on_ok_weaker}
+use Rattle.std.specs.Prelude.{◌≡◌, OnErr}
+use Rattle.std.specs.Io.KnownBytes.{Appends}
 use Rattle.lines.specs.Writing.{AppendsPart}
 use Rattle.lines.proofs.WritingLemmas.{part-both}
+use Rattle.bloom_files.specs.File.{bytes_of}
+use Rattle.bloom_files.specs.FileLayouts.{right_seal, sealed_file}
 use Rattle.bloom_files.proofs.FileLemmas.{file-text}
 use Rattle.bloom_files.proofs.streams.write_parts.Goals as goal
+
+pub returns-clause-file : goal.returns-clause-file
+returns-clause-file g c count shape whole =
+    let from = g.W.Write.contents c.args.output.now in
+    let to = g.W.Write.contents c.put_words.new.output in
+    let text : c.head_bytes_in.result ++ bytes_of c.args.words.now
+    ≡ sealed_file c.args.layout c.args.head.now c.args.words.now =
+    file-text c.args.layout c.args.head.now _ _ _ c.right_seal-seal.ensures
+    c.head_bytes_in.ensures in
+    on_ok_weaker c.put_words.result
+    (λ rest. record {
+      bytes = sealed_file c.args.layout c.args.head.now c.args.words.now;
+      added = subst (Appends from to) text
+          (Appends-trans _ _ _ _ _ c.in_ok-put_bytes.ensures.whole rest);
+      is_file = record {
+        seal = right_seal c.args.layout c.args.head.now c.args.words.now;
+        narrow = omega (arith, c.right_seal-seal.type_inv, c.right_seal-seal.ensures);
+        sealed = inr refl;
+        is = refl;
+        count = count;
+        shape = shape;
+        whole = whole;
+      };
+    })
+    c.put_words.ensures.whole
 
 pub returns-clause-part : goal.returns-clause-part
 returns-clause-part g c =

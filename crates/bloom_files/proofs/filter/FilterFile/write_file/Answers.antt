@@ -1,19 +1,31 @@
-use Rattle.std.proofs.Common.{subst, sym}
+use Rattle.std.proofs.Common.{◌≡◌, ℕ, List, length, refl, subst}
+use Rattle.std.proofs.lemmas.Result.{on_ok_weaker}
 use Rattle.std.specs.Prelude.{OnErr, OnOk}
 use Rattle.std.specs.Io.KnownBytes.{Appends}
 use Rattle.lines.specs.Writing.{AppendsPart}
-use Rattle.bloom_files.specs.FileLayouts.{sealed_file}
-use Rattle.bloom_files.specs.FilterFiles.{IsFileOf}
-use Rattle.bloom_files.proofs.FileLemmas.{file-of}
+use Rattle.bloom_plain.specs.Filter.{IsShape}
+use Rattle.bloom_files.specs.declared.head.Head.{Head}
+use Rattle.bloom_files.specs.declared.layout.Layout.{Layout}
+use Rattle.bloom_files.specs.FileLayouts.{AreWhole, WritesParts, sealed_file}
 use Rattle.bloom_files.proofs.filter.FilterFile.write_file.Goals as goal
 
 pub returns-clause-file : goal.returns-clause-file
 returns-clause-file g c =
-    let f = g.Self.FilterFile.seen c.args.self.now in
-    subst (λ bytes. IsFileOf g.Self.FilterFile.layout bytes f)
-    (λ i. sealed_file (c.layout.ensures i) (c.head-head.ensures.head i) (c.words.ensures i))
-    (file-of _ _ _ _ _ _ c.layout.ensures (sym c.head-head.ensures.head) (sym c.words.ensures)
-    c.head-head.ensures.range c.write_parts.ensures.file)
+    let from = g.W.Write.contents c.args.output.now in
+    let to = g.W.Write.contents c.write_parts.new.output in
+    let head = c.head-head.ensures in
+    let parts : (layout : Layout) (h : Head) (words : List ℕ) → Type 0 = λ layout h words.
+    length words ≡ h.num_words → IsShape (length words) h.num_hashes
+    → AreWhole layout (length words)
+    → OnOk c.write_parts.result (WritesParts layout from to h words) in
+    on_ok_weaker c.write_parts.result
+    (λ written. record {
+      bytes = written.bytes;
+      added = written.added;
+      is_file = record { parts = written.is_file; fits = head.range };
+    })
+    (subst (λ t. t) (λ i. parts (c.layout.ensures i) (head.head i) (c.words.ensures i))
+    c.write_parts.ensures.file refl head.shape head.whole)
 
 pub returns-clause-whole : goal.returns-clause-whole
 returns-clause-whole g c =
