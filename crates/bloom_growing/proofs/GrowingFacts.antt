@@ -1,10 +1,9 @@
 -- Filters that grow, at values from outside: cases that hold, and cases that differ from one of
 -- these in one thing and don't hold. A filter of one word for one item has 44 hashes, and for two
 -- items 22, since 64 times the logarithm of 2 is 44.4. Hash 1 has the positions 0 and 20 among 64.
-use Rattle.std.proofs.Common.{◌≡◌, ◌<◌, ◌≤◌, ℕ, max, true, false, List, [], ◌∷◌, length, map, replicate, refl, sym, ◌∙◌, ap, subst, arith, lit<, lit≤}
+use Rattle.std.proofs.Common.{◌≡◌, ◌<◌, ◌≤◌, ℕ, max, true, false, List, [], ◌∷◌, length, replicate, refl, sym, ◌∙◌, ap, subst, arith, lit<, lit≤}
 use Rattle.bloom_parts.specs.Chain.{chain}
 use Rattle.bloom_parts.specs.Content.{content}
-use Rattle.bloom_parts.specs.Operations.{Insert}
 use Rattle.bloom_parts.specs.Places.{are_in}
 use Rattle.bloom_parts.specs.Rates.{num_of}
 use Rattle.bloom_parts.specs.Roots.{IsRoot}
@@ -14,10 +13,10 @@ use Rattle.bloom_plain.specs.Builders.{sized_filter, empty_start}
 use Rattle.bloom_plain.specs.Filter.{Filter}
 use Rattle.bloom_growing.specs.Growing.{Plan, plan_of, Growing, room_at, den_at, rate_start, IsNumber, has, Took, AreFull, IsGrown}
 use Rattle.bloom_growing.specs.GrowingLaws.{sum_of_rates}
-use Rattle.bloom_plain.specs.Replies.{CarriesOut}
+use Rattle.bloom_growing.specs.Kinds.{Kind, Plain, InsertsNew}
 use Rattle.bloom_plain.proofs.FilterFacts.{filter}
-use Rattle.bloom_plain.proofs.FoundLemmas.{found_after_inserts_law}
 use Rattle.bloom_growing.proofs.GrowingLemmas.{made-empty, took-none}
+use Rattle.bloom_growing.proofs.KindLemmas.{insert-found, new-found}
 
 -- the rate num / den
 abbrev pub rate : (num den : ℕ) → 0 < num → 0 < den → Rate
@@ -48,7 +47,7 @@ sum-none = refl
 
 -- only one filter has a number, where the halvings of its rate are known
 pub only-number : {S : Type 0} (plan : Plan S) (i parts : ℕ) (made : Filter S)
-    → IsHalvings (num_of plan.rate) (den_at plan.rate i) parts → IsNumber plan i made
+    → IsHalvings (num_of plan.rate) (den_at plan.rate i) parts → IsNumber Plain plan i made
     → made ≡ sized_filter (empty_start (rate_start plan.rate plan.hasher)
     (size_for (max 1 (room_at plan.room i)) parts)) (room_at plan.room i)
 only-number plan i parts made known is =
@@ -74,7 +73,7 @@ abbrev pub plan : Plan ℕ
 plan = plan_of four 1 7
 
 -- its filter number 1 is for two items
-pub number-one : IsNumber plan 1 (filter (0 ∷ []) 22 7)
+pub number-one : IsNumber Plain plan 1 (filter (0 ∷ []) 22 7)
 number-one = record {
   rate = rate 4 4 (lit< tt) (lit< tt);
   num = refl;
@@ -83,20 +82,20 @@ number-one = record {
 }
 
 -- and not for one item: its room is doubled
-pub number-one_room : IsNumber plan 1 (filter (0 ∷ []) 44 7) → ⊥
+pub number-one_room : IsNumber Plain plan 1 (filter (0 ∷ []) 44 7) → ⊥
 number-one_room is =
     let wrong : 44 ≡ 22 = ap (λ f. f.hashes) (only-number plan 1 0 _ halvings-none is) in
     omega (arith, wrong)
 
 -- nor has it another hasher
-number-one_hasher : IsNumber plan 1 (filter (0 ∷ []) 22 8) → ⊥
+number-one_hasher : IsNumber Plain plan 1 (filter (0 ∷ []) 22 8) → ⊥
 number-one_hasher is =
     let wrong : 8 ≡ 7 = ap (λ f. f.hasher) (only-number plan 1 0 _ halvings-none is) in
     omega (arith, wrong)
 
 module _ (one : IsHalvings 1 2 64) where
   -- at the rate one, for 1000 items at first, the first filter is for a half: it has 23 words
-  number-half : IsNumber (plan_of whole 1000 7) 0 (filter (replicate 23 0) 1 7)
+  number-half : IsNumber Plain (plan_of whole 1000 7) 0 (filter (replicate 23 0) 1 7)
   number-half = record {
     rate = rate 1 2 (lit< tt) (lit< tt);
     num = refl;
@@ -105,7 +104,7 @@ module _ (one : IsHalvings 1 2 64) where
   }
 
   -- one word would be enough for the rate one: the rate is halved
-  number-whole : IsNumber (plan_of whole 1000 7) 0 (filter (0 ∷ []) 1 7) → ⊥
+  number-whole : IsNumber Plain (plan_of whole 1000 7) 0 (filter (0 ∷ []) 1 7) → ⊥
   number-whole is =
       let wrong : 1 ≡ 23 =
       ap (λ f. length f.words) (only-number (plan_of whole 1000 7) 0 64 _ one is) in
@@ -128,47 +127,46 @@ grown older newest taken = record {
 }
 
 -- a hash is found in an older filter
-has-older : has (grown (with_one ∷ []) with_none 0) 1 ≡ true
+has-older : has Plain (grown (with_one ∷ []) with_none 0) 1 ≡ true
 unfolding content chain are_in
 has-older = refl
 
 -- a hash is found in the newest filter
-has-newest : has (grown (with_none ∷ []) with_one 1) 1 ≡ true
+has-newest : has Plain (grown (with_none ∷ []) with_one 1) 1 ≡ true
 unfolding content chain are_in
 has-newest = refl
 
 -- a hash that no filter has isn't found
-has-none : has (grown (with_none ∷ []) with_none 0) 1 ≡ false
+has-none : has Plain (grown (with_none ∷ []) with_none 0) 1 ≡ false
 unfolding content chain are_in
 has-none = refl
 
 -- a filter that was just made took no hash
-none-took : Took plan (with_one ∷ []) 0 (filter (0 ∷ []) 22 7)
-none-took = took-none plan (with_one ∷ []) (filter (0 ∷ []) 22 7) number-one
+none-took : Took Plain plan (with_one ∷ []) 0 (filter (0 ∷ []) 22 7)
+none-took = took-none Plain plan (with_one ∷ []) (filter (0 ∷ []) 22 7) number-one
 
 -- a filter that has nothing took no list of at least one hash
-pub took-list : {S : Type 0} (plan : Plan S) (i : ℕ) (made filter : Filter S) (hashes : List ℕ)
-    → IsNumber plan i filter
-    → CarriesOut made (map Insert hashes) filter (map (λ _. false) hashes)
+pub took-list : {S : Type 0} (kind : Kind) (plan : Plan S) (i : ℕ) (made filter : Filter S)
+    (hashes : List ℕ) → IsNumber kind plan i filter → InsertsNew kind made hashes filter
     → 1 ≤ length hashes → ⊥
-took-list plan i made filter [] is did some = absurd (omega (arith, some))
-took-list plan i made filter (hash ∷ later) is did some =
-    let found = found_after_inserts_law _ made filter [] later hash
-    (map (λ _. false) (hash ∷ later), did) in
-    let wrong : false ≡ true = sym (made-empty plan i filter hash is) ∙ found in
+took-list kind plan i made filter [] is did some = absurd (omega (arith, some))
+took-list kind plan i made filter (hash ∷ later) is did some =
+    let found = new-found kind did.0 later filter hash did.2
+    (insert-found kind made did.0 hash false did.1) in
+    let wrong : false ≡ true = sym (made-empty kind plan i filter hash is) ∙ found in
     cc
 
 -- so it didn't take one
-one-took : Took plan (with_one ∷ []) 1 (filter (0 ∷ []) 22 7) → ⊥
+one-took : Took Plain plan (with_one ∷ []) 1 (filter (0 ∷ []) 22 7) → ⊥
 one-took took =
-    took-list plan 1 took.made _ took.hashes number-one took.did (omega (arith, took.counted))
+    took-list Plain plan 1 took.made _ took.hashes number-one took.did (omega (arith, took.counted))
 
 -- and isn't full, since it has room for two
-not-full : AreFull plan (with_one ∷ []) (filter (0 ∷ []) 22 7 ∷ []) → ⊥
+not-full : AreFull Plain plan (with_one ∷ []) (filter (0 ∷ []) 22 7 ∷ []) → ⊥
 not-full full =
     let took = full.0 in
-    took-list plan 1 took.made _ took.hashes number-one took.did (omega (arith, took.counted))
+    took-list Plain plan 1 took.made _ took.hashes number-one took.did (omega (arith, took.counted))
 
 -- the newest filter took no more than its room
-grown-past : IsGrown (grown [] with_one 2) → ⊥
+grown-past : IsGrown Plain (grown [] with_one 2) → ⊥
 grown-past is = omega (arith, is.most)

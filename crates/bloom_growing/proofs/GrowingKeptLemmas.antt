@@ -1,30 +1,32 @@
 -- What a filter that grows keeps through its calls.
-use Rattle.std.proofs.Common.{◌≡◌, ℕ, zero, suc, ◌+◌, ◌*◌, ◌^◌, ◌<◌, ◌≤◌, false, List, [], ◌∷◌, ◌++◌, length, Option, Some, sym, ◌∙◌, ap, subst, arith, lit≤, length-append}
+use Rattle.std.proofs.Common.{◌≡◌, ℕ, zero, suc, ◌+◌, ◌*◌, ◌^◌, ◌<◌, ◌≤◌, max, false, List, [], ◌∷◌, ◌++◌, length, Option, Some, sym, ◌∙◌, ap, subst, arith, lit≤, length-append}
 use Rattle.std.proofs.Math.Nat.{one-le-pow}
 use Rattle.bloom_parts.specs.declared.error.FilterError.{FilterError}
 use Rattle.bloom_parts.specs.declared.hasher.CloneBuildHasher.{CloneBuildHasher}
 use Rattle.bloom_parts.specs.declared.hasher.sip.RandomDefaultHasher.{RandomDefaultHasher}
 use Rattle.bloom_parts.specs.declared.math.rate.Rate.{Rate}
 use Rattle.bloom_parts.specs.Rates.{num_of, den_of}
-use Rattle.bloom_plain.specs.Builders.{size_refusal, RefusesAs, IsMadeFor, IsSizeOf}
-use Rattle.bloom_plain.specs.Filter.{Filter, Inserts}
+use Rattle.bloom_plain.specs.Builders.{RefusesAs}
+use Rattle.bloom_plain.specs.Filter.{Filter}
 use Rattle.bloom_growing.specs.Growing.{Plan, Growing, room_at, den_at, newest_room, rate_start, IsNumber, any_contains, Took, IsKeyed, IsKept}
 use Rattle.bloom_growing.specs.GrowingInserts.{of_builders, RefusesNumber}
+use Rattle.bloom_growing.specs.Kinds.{Kind, InsertsIn, IsMadeIn, IsSizeIn, size_refusal_in}
 use Rattle.bloom_growing.specs.declared.growing.error.GrowingError.{GrowingError}
 use Rattle.bloom_growing.specs.declared.growing.error.GrowingError.TheVariants.{RateOverflow, TooManyItems}
 use Rattle.bloom_growing.proofs.GrowingLemmas.{room_at-next, den_at-next, took-none, took-next, are_full-next}
 use Rattle.bloom_growing.proofs.GrowingRefusalLemmas.{refuses-rate, refuses-room, refuses-size}
 
 -- the builders made a filter for the rate and the room of its number
-pub is_number : {S : Type 0} (plan : Plan S) (i : ℕ) (half : Rate) (many : ℕ) (made : Filter S)
+pub is_number : {S : Type 0} (kind : Kind) (plan : Plan S) (i : ℕ) (half : Rate) (many : ℕ)
+    (made : Filter S)
     → num_of half ≡ num_of plan.rate → den_of half ≡ den_at plan.rate i
-    → many ≡ room_at plan.room i → IsMadeFor (rate_start half plan.hasher) many made
-    → IsNumber plan i made
-is_number plan i half many made num den is made_for = record {
+    → many ≡ room_at plan.room i → IsMadeIn kind (rate_start half plan.hasher) many made
+    → IsNumber kind plan i made
+is_number kind plan i half many made num den is made_for = record {
   rate = half;
   num = num;
   den = den;
-  is_made = subst (λ n. IsMadeFor (rate_start half plan.hasher) n made) is made_for;
+  is_made = subst (λ n. IsMadeIn kind (rate_start half plan.hasher) n made) is made_for;
 }
 
 -- a room is above zero
@@ -33,20 +35,20 @@ some_room_at zero i some = absurd (omega (arith, some))
 some_room_at (suc room) i some = omega (arith, one-le-pow i 2 (lit≤ tt))
 
 -- the first filter keeps the rule
-pub kept-begun : (plan : Plan (CloneBuildHasher RandomDefaultHasher))
+pub kept-begun : (kind : Kind) (plan : Plan (CloneBuildHasher RandomDefaultHasher))
     (none : List (Filter (CloneBuildHasher RandomDefaultHasher)))
     (made : Filter (CloneBuildHasher RandomDefaultHasher)) (half : Rate) → 1 ≤ plan.room
-    → IsKeyed plan.hasher → none ≡ [] → IsNumber plan 0 made → num_of half ≡ num_of plan.rate
+    → IsKeyed plan.hasher → none ≡ [] → IsNumber kind plan 0 made → num_of half ≡ num_of plan.rate
     → den_of half ≡ den_at plan.rate 0
-    → IsKept (record { plan = plan; older = none; newest = made; taken = 0 }) half plan.room
-kept-begun plan none made half some key is number num den =
+    → IsKept kind (record { plan = plan; older = none; newest = made; taken = 0 }) half plan.room
+kept-begun kind plan none made half some key is number num den =
     subst
-    (λ l. IsKept (record { plan = plan; older = l; newest = made; taken = 0 }) half plan.room)
+    (λ l. IsKept kind (record { plan = plan; older = l; newest = made; taken = 0 }) half plan.room)
     (sym is) (record {
       grown = record {
         some_room = some;
         full = tt;
-        newest = took-none plan [] made number;
+        newest = took-none kind plan [] made number;
         most = omega arith;
       };
       key = key;
@@ -56,12 +58,12 @@ kept-begun plan none made half some key is number num den =
     })
 
 -- the next filter is refused with this error
-abbrev pub RefusesNext : Growing (CloneBuildHasher RandomDefaultHasher)
+abbrev pub RefusesNext : Kind → Growing (CloneBuildHasher RandomDefaultHasher)
     → Option GrowingError → Type 0
-RefusesNext g = RefusesNumber g.plan.rate g.plan.room (length g.older + 1)
+RefusesNext kind g = RefusesNumber kind g.plan.rate g.plan.room (length g.older + 1)
 
-module _ (g : Growing (CloneBuildHasher RandomDefaultHasher)) (rate : Rate) (room : ℕ)
-    (kept : IsKept g rate room) where
+module _ (kind : Kind) (g : Growing (CloneBuildHasher RandomDefaultHasher)) (rate : Rate) (room : ℕ)
+    (kept : IsKept kind g rate room) where
   -- the rate of the next filter has twice the lower part
   next-den : den_of rate * 2 ≡ den_at g.plan.rate (length g.older + 1)
   next-den = ap (λ n. n * 2) kept.den ∙ sym (den_at-next g.plan.rate (length g.older))
@@ -72,24 +74,26 @@ module _ (g : Growing (CloneBuildHasher RandomDefaultHasher)) (rate : Rate) (roo
 
   -- the next filter is refused where the rate can't be halved
   pub refuses-next_rate : (error : GrowingError) → 2 ^ 64 ≤ den_of rate * 2 → error ≡ RateOverflow
-      → RefusesNext g (Some error)
+      → RefusesNext kind g (Some error)
   refuses-next_rate error =
-      refuses-rate g.plan.rate g.plan.room (length g.older + 1) _ error next-den
+      refuses-rate kind g.plan.rate g.plan.room (length g.older + 1) _ error next-den
 
   module _ (half : Rate) (num : num_of half ≡ num_of rate) (den : den_of half ≡ den_of rate * 2)
     where
       -- and then where the room is too large
       pub refuses-next_room : den_of half < 2 ^ 64 → 2 ^ 64 ≤ room * 2
-          → RefusesNext g (Some TooManyItems)
+          → RefusesNext kind g (Some TooManyItems)
       refuses-next_room fits =
-          refuses-room g.plan.rate g.plan.room (length g.older + 1) _ _ (den ∙ next-den) fits
+          refuses-room kind g.plan.rate g.plan.room (length g.older + 1) _ _ (den ∙ next-den) fits
           next-room
 
       module _ (many : ℕ) (is_room : many ≡ room * 2) where
         -- and then as the builders refuse a size
         pub refuses-next_size : (refusal : Option FilterError) → den_of half < 2 ^ 64
-            → many < 2 ^ 64 → (bits : ℕ) × IsSizeOf (rate_start half g.plan.hasher) many bits
-            × RefusesAs (size_refusal bits) refusal → RefusesNext g (of_builders refusal)
+            → many < 2 ^ 64
+            → (bits : ℕ) × IsSizeIn kind (max 1 many) (num_of half) (den_of half) bits
+            × RefusesAs (size_refusal_in kind bits) refusal
+            → RefusesNext kind g (of_builders refusal)
         refuses-next_size refusal fits few sized =
             let some : 1 ≤ many = omega (
               arith,
@@ -97,41 +101,44 @@ module _ (g : Growing (CloneBuildHasher RandomDefaultHasher)) (rate : Rate) (roo
               kept.newest_is,
               some_room_at g.plan.room (length g.older) kept.grown.some_room,
             ) in
-            refuses-size g.plan.rate g.plan.room (length g.older + 1) half g.plan.hasher many
+            refuses-size kind g.plan.rate g.plan.room (length g.older + 1) half many
             refusal (num ∙ kept.num) (den ∙ next-den) fits (is_room ∙ next-room) few some sized
 
         -- a filter that was made for this rate and this room has the next number
         pub next-number : (made new : Filter (CloneBuildHasher RandomDefaultHasher)) → new ≡ made
-            → IsMadeFor (rate_start half g.plan.hasher) many made
-            → IsNumber g.plan (length g.older + 1) new
+            → IsMadeIn kind (rate_start half g.plan.hasher) many made
+            → IsNumber kind g.plan (length g.older + 1) new
         next-number made new is made_for =
-            subst (IsNumber g.plan (length g.older + 1)) (sym is)
-            (is_number g.plan (length g.older + 1) half many made (num ∙ kept.num) (den ∙ next-den)
-            (is_room ∙ next-room) made_for)
+            subst (IsNumber kind g.plan (length g.older + 1)) (sym is)
+            (is_number kind g.plan (length g.older + 1) half many made (num ∙ kept.num)
+            (den ∙ next-den) (is_room ∙ next-room) made_for)
 
         -- the next filter keeps the rule, if the newest was full
         pub kept-begins : (made new : Filter (CloneBuildHasher RandomDefaultHasher)) → new ≡ made
-            → IsMadeFor (rate_start half g.plan.hasher) many made
+            → IsMadeIn kind (rate_start half g.plan.hasher) many made
             → (items : List (Filter (CloneBuildHasher RandomDefaultHasher)))
             → items ≡ g.older ++ g.newest ∷ [] → newest_room g ≤ g.taken
-            → IsKept (record { plan = g.plan; older = items; newest = new; taken = 0 }) half many
+            → IsKept kind (record { plan = g.plan; older = items; newest = new; taken = 0 })
+            half many
         kept-begins made new is made_for items are full =
             let more : length (g.older ++ g.newest ∷ []) ≡ length g.older + 1 =
             length-append g.older (g.newest ∷ []) in
             let number = next-number made new is made_for in
             let grown = kept.grown in
             subst
-            (λ l. IsKept (record { plan = g.plan; older = l; newest = new; taken = 0 }) half many)
+            (λ l. IsKept kind (record { plan = g.plan; older = l; newest = new; taken = 0 })
+            half many)
             (sym are) (record {
               grown = record {
                 some_room = grown.some_room;
                 full =
-                    are_full-next g.plan [] g.older g.newest grown.full
-                    (subst (λ n. Took g.plan g.older n g.newest) (omega (arith, grown.most, full))
+                    are_full-next kind g.plan [] g.older g.newest grown.full
+                    (subst (λ n. Took kind g.plan g.older n g.newest)
+                    (omega (arith, grown.most, full))
                     grown.newest);
                 newest =
-                    took-none g.plan (g.older ++ g.newest ∷ []) new
-                    (subst (λ n. IsNumber g.plan n new) (sym more) number);
+                    took-none kind g.plan (g.older ++ g.newest ∷ []) new
+                    (subst (λ n. IsNumber kind g.plan n new) (sym more) number);
                 most = omega arith;
               };
               key = kept.key;
@@ -142,15 +149,15 @@ module _ (g : Growing (CloneBuildHasher RandomDefaultHasher)) (rate : Rate) (roo
 
   -- the newest filter with one more hash keeps the rule
   pub kept-adds : (hash : ℕ) (new : Filter (CloneBuildHasher RandomDefaultHasher))
-      → any_contains g.older hash ≡ false → g.taken < newest_room g
-      → Inserts g.newest hash new false
-      → IsKept (record { plan = g.plan; older = g.older; newest = new; taken = g.taken + 1 })
+      → any_contains kind g.older hash ≡ false → g.taken < newest_room g
+      → InsertsIn kind g.newest hash new false
+      → IsKept kind (record { plan = g.plan; older = g.older; newest = new; taken = g.taken + 1 })
       rate room
   kept-adds hash new absent spare did = record {
     grown = record {
       some_room = kept.grown.some_room;
       full = kept.grown.full;
-      newest = took-next g.plan g.older g.taken g.newest new hash kept.grown.newest absent did;
+      newest = took-next kind g.plan g.older g.taken g.newest new hash kept.grown.newest absent did;
       most = omega (arith, spare);
     };
     key = kept.key;

@@ -4,82 +4,86 @@ use Rattle.std.proofs.Math.Nat.{mul-pos, pow-suc, lt_of_mul-lt-mul_right}
 use Rattle.std.proofs.lemmas.Bool.{or_cases, or_left, or_right, cases_lt}
 use Rattle.bloom_parts.specs.Rates.{num_of, den_of}
 use Rattle.bloom_parts.specs.declared.math.rate.Rate.{Rate}
-use Rattle.bloom_plain.specs.Filter.{contains}
 use Rattle.bloom_growing.specs.Growing.{Growing, any_contains, has, den_at, newest_room}
 use Rattle.bloom_growing.specs.GrowingInserts.{Begins, MakesRoom, Adds, Takes}
 use Rattle.bloom_growing.specs.GrowingLaws.{GrowingKeptLaw, GrowingFoundLaw, sum_of_rates, RatesBelowLaw}
+use Rattle.bloom_growing.specs.Kinds.{Kind, contains_in}
 use Rattle.bloom_growing.proofs.GrowingLemmas.{has-or}
 use Rattle.bloom_growing.proofs.GrowingKeptLemmas.{some_room_at}
-use Rattle.bloom_plain.proofs.LawLemmas.{insert_law, kept_by_insert_law}
+use Rattle.bloom_growing.proofs.KindLemmas.{insert-found, insert-keeps}
 
-module _ {S : Type 0} where
+module _ {S : Type 0} (kind : Kind) where
   -- an older filter that contains a hash is enough
-  has-older : (g : Growing S) (hash : ℕ) → any_contains g.older hash ≡ true → has g hash ≡ true
-  has-older g hash found = has-or g hash ∙ or_left (any_contains g.older hash) _ found
+  has-older : (g : Growing S) (hash : ℕ) → any_contains kind g.older hash ≡ true
+      → has kind g hash ≡ true
+  has-older g hash found = has-or kind g hash ∙ or_left (any_contains kind g.older hash) _ found
 
   -- the newest filter is enough as well
-  has-newest : (g : Growing S) (hash : ℕ) → contains g.newest hash ≡ true → has g hash ≡ true
-  has-newest g hash found = has-or g hash ∙ or_right (any_contains g.older hash) _ found
+  has-newest : (g : Growing S) (hash : ℕ) → contains_in kind g.newest hash ≡ true
+      → has kind g hash ≡ true
+  has-newest g hash found = has-or kind g hash ∙ or_right (any_contains kind g.older hash) _ found
 
   -- the filters before the next one are all older then
-  has-begins : (old new : Growing S) (hash : ℕ) → Begins old new → has old hash ≡ true
-      → has new hash ≡ true
+  has-begins : (old new : Growing S) (hash : ℕ) → Begins kind old new → has kind old hash ≡ true
+      → has kind new hash ≡ true
   has-begins old new hash begins found =
-      has-older new hash (ap (λ l. any_contains l hash) begins.older ∙ found)
+      has-older new hash (ap (λ l. any_contains kind l hash) begins.older ∙ found)
 
   -- making room loses no hash
-  has-room : (old new : Growing S) (hash : ℕ) → MakesRoom old new → has old hash ≡ true
-      → has new hash ≡ true
+  has-room : (old new : Growing S) (hash : ℕ) → MakesRoom kind old new → has kind old hash ≡ true
+      → has kind new hash ≡ true
   has-room old new hash room found = elim (cases_lt old.taken (newest_room old)) [
-    | inl spare ↦ subst (λ g. has g hash ≡ true) (sym (room.spare spare)) found
+    | inl spare ↦ subst (λ g. has kind g hash ≡ true) (sym (room.spare spare)) found
     | inr full ↦ has-begins old new hash (room.full full) found
   ]
 
   -- one more hash loses no other
-  has-adds : (old new : Growing S) (added hash : ℕ) → Adds old added new → has old hash ≡ true
-      → has new hash ≡ true
+  has-adds : (old new : Growing S) (added hash : ℕ) → Adds kind old added new
+      → has kind old hash ≡ true
+      → has kind new hash ≡ true
   has-adds old new added hash adds found =
-      elim (or_cases (any_contains old.older hash) (contains old.newest hash)
-      (sym (has-or old hash) ∙ found)) [
+      elim (or_cases (any_contains kind old.older hash) (contains_in kind old.newest hash)
+      (sym (has-or kind old hash) ∙ found)) [
         | inl older ↦
-            has-older new hash (ap (λ l. any_contains l hash) adds.older ∙ older)
+            has-older new hash (ap (λ l. any_contains kind l hash) adds.older ∙ older)
         | inr newest ↦
             has-newest new hash
-            (kept_by_insert_law S old.newest new.newest added hash false adds.newest newest)
+            (insert-keeps kind old.newest new.newest added hash false adds.newest newest)
       ]
 
   -- an insert by its reply: nothing changed, or the hash was added
-  kept-takes : (old new : Growing S) (came hash : ℕ) (reply held : Bool) → has old came ≡ held
-      → Takes old came new reply → has old hash ≡ true → has new hash ≡ true
+  kept-takes : (old new : Growing S) (came hash : ℕ) (reply held : Bool) → has kind old came ≡ held
+      → Takes kind old came new reply → has kind old hash ≡ true → has kind new hash ≡ true
   kept-takes old new came hash reply true is takes found =
-      subst (λ g. has g hash ≡ true) (sym (takes.held is)) found
+      subst (λ g. has kind g hash ≡ true) (sym (takes.held is)) found
   kept-takes old new came hash reply false is takes found =
       let added = takes.adds is in
       has-adds added.0 new came hash added.2 (has-room old added.0 hash added.1 found)
 
   -- a hash that came is contained, whether it was before or not
-  found-takes : (old new : Growing S) (hash : ℕ) (reply held : Bool) → has old hash ≡ held
-      → Takes old hash new reply → has new hash ≡ true
+  found-takes : (old new : Growing S) (hash : ℕ) (reply held : Bool) → has kind old hash ≡ held
+      → Takes kind old hash new reply → has kind new hash ≡ true
   found-takes old new hash reply true is takes =
-      subst (λ g. has g hash ≡ true) (sym (takes.held is)) is
+      subst (λ g. has kind g hash ≡ true) (sym (takes.held is)) is
   found-takes old new hash reply false is takes =
       let added = takes.adds is in
-      has-newest new hash (insert_law S added.0.newest new.newest hash false added.2.newest).1
+      has-newest new hash (insert-found kind added.0.newest new.newest hash false added.2.newest)
 
 -- what is contained stays, one insert after the other
 pub growing_kept_law : (S : Type 0) → GrowingKeptLaw S
-growing_kept_law S old new [] hash all found = subst (λ g. has g hash ≡ true) (sym all) found
-growing_kept_law S old new (came ∷ later) hash all found =
-    growing_kept_law S all.0 new later hash all.3
-    (kept-takes old all.0 came hash all.1 (has old came) refl all.2 found)
+growing_kept_law S kind old new [] hash all found =
+    subst (λ g. has kind g hash ≡ true) (sym all) found
+growing_kept_law S kind old new (came ∷ later) hash all found =
+    growing_kept_law S kind all.0 new later hash all.3
+    (kept-takes kind old all.0 came hash all.1 (has kind old came) refl all.2 found)
 
 -- the hash is contained once it came, and stays
 pub growing_found_law : (S : Type 0) → GrowingFoundLaw S
-growing_found_law S old new [] later hash all =
-    growing_kept_law S all.0 new later hash all.3
-    (found-takes old all.0 hash all.1 (has old hash) refl all.2)
-growing_found_law S old new (came ∷ earlier) later hash all =
-    growing_found_law S all.0 new earlier later hash all.3
+growing_found_law S kind old new [] later hash all =
+    growing_kept_law S kind all.0 new later hash all.3
+    (found-takes kind old all.0 hash all.1 (has kind old hash) refl all.2)
+growing_found_law S kind old new (came ∷ earlier) later hash all =
+    growing_found_law S kind all.0 new earlier later hash all.3
 
 -- the lower part of a sum of rates is above zero
 sum-above : (rate : Rate) (m : ℕ) → 0 < (sum_of_rates rate m).1

@@ -10,6 +10,7 @@ use Rattle.bloom_parts.specs.declared.error.FilterError.TheVariants.{ZeroRate, S
 use Rattle.bloom_parts.specs.declared.math.rate.Rate.{Rate}
 use Rattle.bloom_plain.specs.Builders.{size_refusal, RefusesAs}
 use Rattle.bloom_growing.specs.GrowingInserts.{of_builders, RefusesNumber, RefusesInsert}
+use Rattle.bloom_growing.specs.Kinds.{Plain}
 use Rattle.bloom_growing.specs.declared.growing.error.GrowingError.TheVariants.{RateOverflow, TooManyItems, Filter}
 use Rattle.bloom_growing.proofs.GrowingFacts.{rate, four, whole, grown, with_one, with_none, halvings-none}
 
@@ -17,7 +18,7 @@ use Rattle.bloom_growing.proofs.GrowingFacts.{rate, four, whole, grown, with_one
 abbrev pub least_rate : Rate
 least_rate = rate 1 9223372036854775808 (lit< tt) (lit< tt)
 
-rate-least : RefusesNumber least_rate 1 0 (Some RateOverflow)
+rate-least : RefusesNumber Plain least_rate 1 0 (Some RateOverflow)
 rate-least = record {
   rate_refused = λ _. refl;
   room_refused = λ small _. absurd (omega (arith, small));
@@ -25,16 +26,16 @@ rate-least = record {
 }
 
 -- and is refused as such: not for the room, nor as a rate with a zero part
-rate-least_room : RefusesNumber least_rate 1 0 (Some TooManyItems) → ⊥
+rate-least_room : RefusesNumber Plain least_rate 1 0 (Some TooManyItems) → ⊥
 rate-least_room refused =
     let wrong : Some TooManyItems ≡ Some RateOverflow = refused.rate_refused (lit≤ tt) in cc
 
-rate-least_zero : RefusesNumber least_rate 1 0 (Some (Filter ZeroRate)) → ⊥
+rate-least_zero : RefusesNumber Plain least_rate 1 0 (Some (Filter ZeroRate)) → ⊥
 rate-least_zero refused =
     let wrong : Some (Filter ZeroRate) ≡ Some RateOverflow = refused.rate_refused (lit≤ tt) in cc
 
 -- the second filter of a room of 2^63 would be for 2^64 items
-room-greatest : RefusesNumber four 9223372036854775808 1 (Some TooManyItems)
+room-greatest : RefusesNumber Plain four 9223372036854775808 1 (Some TooManyItems)
 room-greatest = record {
   rate_refused = λ large. absurd (omega (arith, large));
   room_refused = λ _ _. refl;
@@ -42,24 +43,24 @@ room-greatest = record {
 }
 
 -- and is refused as such: not for the rate, nor as too large a size
-room-greatest_rate : RefusesNumber four 9223372036854775808 1 (Some RateOverflow) → ⊥
+room-greatest_rate : RefusesNumber Plain four 9223372036854775808 1 (Some RateOverflow) → ⊥
 room-greatest_rate refused =
     let wrong : Some RateOverflow ≡ Some TooManyItems = refused.room_refused (lit< tt) (lit≤ tt) in
     cc
 
-room-greatest_size : RefusesNumber four 9223372036854775808 1 (Some (Filter SizeOverflow)) → ⊥
+room-greatest_size : RefusesNumber Plain four 9223372036854775808 1 (Some (Filter SizeOverflow)) → ⊥
 room-greatest_size refused =
     let wrong : Some (Filter SizeOverflow) ≡ Some TooManyItems =
     refused.room_refused (lit< tt) (lit≤ tt) in
     cc
 
 -- where neither can be halved nor doubled, the rate is reported
-both-room : RefusesNumber least_rate 9223372036854775808 1 (Some TooManyItems) → ⊥
+both-room : RefusesNumber Plain least_rate 9223372036854775808 1 (Some TooManyItems) → ⊥
 both-room refused =
     let wrong : Some TooManyItems ≡ Some RateOverflow = refused.rate_refused (lit≤ tt) in cc
 
 -- a filter of one word may be made
-size-made : RefusesNumber four 1 1 None
+size-made : RefusesNumber Plain four 1 1 None
 size-made = record {
   rate_refused = λ large. absurd (omega (arith, large));
   room_refused = λ _ many. absurd (omega (arith, many));
@@ -67,7 +68,7 @@ size-made = record {
 }
 
 -- or memory is out
-size-memory : RefusesNumber four 1 1 (Some (Filter Memory))
+size-memory : RefusesNumber Plain four 1 1 (Some (Filter Memory))
 size-memory = record {
   rate_refused = λ large. absurd (omega (arith, large));
   room_refused = λ _ many. absurd (omega (arith, many));
@@ -84,17 +85,17 @@ not-room None wrong = cc
 not-room (Some e) wrong = cc
 
 -- so memory is reported neither as the rate nor as the room
-size-made_rate : RefusesNumber four 1 1 (Some RateOverflow) → ⊥
+size-made_rate : RefusesNumber Plain four 1 1 (Some RateOverflow) → ⊥
 size-made_rate refused =
     let size = refused.size_refused (lit< tt) (lit< tt) in not-rate size.2 size.4
 
-size-made_room : RefusesNumber four 1 1 (Some TooManyItems) → ⊥
+size-made_room : RefusesNumber Plain four 1 1 (Some TooManyItems) → ⊥
 size-made_room refused =
     let size = refused.size_refused (lit< tt) (lit< tt) in not-room size.2 size.4
 
 module _ (one : IsHalvings 1 2 64) where
   -- the first filter of a room of 12786308645202655227 at the rate one would have 2^64 bits
-  size-large : RefusesNumber whole 12786308645202655227 0 (Some (Filter SizeOverflow))
+  size-large : RefusesNumber Plain whole 12786308645202655227 0 (Some (Filter SizeOverflow))
   size-large = record {
     rate_refused = λ large. absurd (omega (arith, large));
     room_refused = λ _ many. absurd (omega (arith, many));
@@ -102,7 +103,7 @@ module _ (one : IsHalvings 1 2 64) where
   }
 
   -- and is refused as such
-  size-large_memory : RefusesNumber whole 12786308645202655227 0 (Some (Filter Memory)) → ⊥
+  size-large_memory : RefusesNumber Plain whole 12786308645202655227 0 (Some (Filter Memory)) → ⊥
   size-large_memory refused =
       let size = refused.size_refused (lit< tt) (lit< tt) in
       let halvings = size.1.1 in
@@ -117,16 +118,16 @@ module _ (one : IsHalvings 1 2 64) where
       cc
 
 -- an insert of a hash that is contained isn't refused
-insert-held : RefusesInsert (grown [] with_one 1) 1 (Some (Filter Memory)) → ⊥
+insert-held : RefusesInsert Plain (grown [] with_one 1) 1 (Some (Filter Memory)) → ⊥
 unfolding content chain are_in
 insert-held refused = let wrong : Some (Filter Memory) ≡ None = refused.held refl in cc
 
 -- nor is one where there is room
-insert-spare : RefusesInsert (grown [] with_none 0) 1 (Some (Filter Memory)) → ⊥
+insert-spare : RefusesInsert Plain (grown [] with_none 0) 1 (Some (Filter Memory)) → ⊥
 insert-spare refused = let wrong : Some (Filter Memory) ≡ None = refused.spare (lit< tt) in cc
 
 -- an insert of a new hash where the newest filter is full is refused as the next filter is
-insert-full : RefusesInsert (grown [] with_one 1) 2 (Some (Filter Memory))
+insert-full : RefusesInsert Plain (grown [] with_one 1) 2 (Some (Filter Memory))
 unfolding content chain are_in
 insert-full = record {
   held = λ held. let wrong : false ≡ true = held in cc;
@@ -134,6 +135,6 @@ insert-full = record {
   full = λ _ _. size-memory;
 }
 
-insert-full_rate : RefusesInsert (grown [] with_one 1) 2 (Some RateOverflow) → ⊥
+insert-full_rate : RefusesInsert Plain (grown [] with_one 1) 2 (Some RateOverflow) → ⊥
 unfolding content chain are_in
 insert-full_rate refused = size-made_rate (refused.full refl (lit≤ tt))

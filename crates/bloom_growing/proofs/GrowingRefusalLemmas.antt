@@ -1,20 +1,20 @@
 -- Why the next filter of one that grows is refused.
-use Rattle.std.proofs.Common.{◌≡◌, ℕ, ◌^◌, ◌<◌, ◌≤◌, Option, Some, None, refl, ap, subst, arith}
+use Rattle.std.proofs.Common.{◌≡◌, ℕ, ◌^◌, ◌<◌, ◌≤◌, max, Option, Some, None, refl, ap, subst, arith}
 use Rattle.bloom_parts.specs.declared.error.FilterError.{FilterError}
 use Rattle.bloom_parts.specs.declared.error.FilterError.TheVariants.{Memory}
 use Rattle.bloom_parts.specs.declared.math.rate.Rate.{Rate}
 use Rattle.bloom_parts.specs.Rates.{num_of, den_of}
-use Rattle.bloom_parts.specs.Sizing.{IsSizeFor}
-use Rattle.bloom_plain.specs.Builders.{size_refusal, RefusesAs, IsSizeOf}
-use Rattle.bloom_growing.specs.Growing.{room_at, den_at, rate_start}
+use Rattle.bloom_plain.specs.Builders.{RefusesAs}
+use Rattle.bloom_growing.specs.Growing.{room_at, den_at}
 use Rattle.bloom_growing.specs.GrowingInserts.{of_builders, RefusesNumber}
+use Rattle.bloom_growing.specs.Kinds.{Kind, IsSizeIn, size_refusal_in}
 use Rattle.bloom_growing.specs.declared.growing.error.GrowingError.{GrowingError}
 use Rattle.bloom_growing.specs.declared.growing.error.GrowingError.TheVariants.{RateOverflow, TooManyItems}
 
-module _ (rate : Rate) (room i : ℕ) where
+module _ (kind : Kind) (rate : Rate) (room i : ℕ) where
   -- a rate that can't be halved is refused
   pub refuses-rate : (den : ℕ) (error : GrowingError) → den ≡ den_at rate i → 2 ^ 64 ≤ den
-      → error ≡ RateOverflow → RefusesNumber rate room i (Some error)
+      → error ≡ RateOverflow → RefusesNumber kind rate room i (Some error)
   refuses-rate den error is large same = record {
     rate_refused = λ _. ap Some same;
     room_refused = λ small _. absurd (omega (arith, small, is, large));
@@ -24,7 +24,7 @@ module _ (rate : Rate) (room i : ℕ) where
   -- a room of 2^64 or more is refused, behind a rate that can be halved
   pub refuses-room : (den many : ℕ) → den ≡ den_at rate i → den < 2 ^ 64
       → many ≡ room_at room i → 2 ^ 64 ≤ many
-      → RefusesNumber rate room i (Some TooManyItems)
+      → RefusesNumber kind rate room i (Some TooManyItems)
   refuses-room den many is small is_room large = record {
     rate_refused = λ big. absurd (omega (arith, big, is, small));
     room_refused = λ _ _. refl;
@@ -32,20 +32,20 @@ module _ (rate : Rate) (room i : ℕ) where
   }
 
   -- a size is refused as the builders refuse it
-  pub refuses-size : {S : Type 0} (half : Rate) (hasher : S) (many : ℕ)
-      (refusal : Option FilterError) → num_of half ≡ num_of rate → den_of half ≡ den_at rate i
+  pub refuses-size : (half : Rate) (many : ℕ) (refusal : Option FilterError)
+      → num_of half ≡ num_of rate → den_of half ≡ den_at rate i
       → den_of half < 2 ^ 64 → many ≡ room_at room i → many < 2 ^ 64 → 1 ≤ many
-      → (bits : ℕ) × IsSizeOf (rate_start half hasher) many bits
-      × RefusesAs (size_refusal bits) refusal
-      → RefusesNumber rate room i (of_builders refusal)
-  refuses-size half hasher many refusal num den small is few some sized = record {
+      → (bits : ℕ) × IsSizeIn kind (max 1 many) (num_of half) (den_of half) bits
+      × RefusesAs (size_refusal_in kind bits) refusal
+      → RefusesNumber kind rate room i (of_builders refusal)
+  refuses-size half many refusal num den small is few some sized = record {
     rate_refused = λ big. absurd (omega (arith, big, den, small));
     room_refused = λ _ large. absurd (omega (arith, large, is, few));
     size_refused = λ _ _. (
       sized.0,
-      subst (λ d. IsSizeFor (room_at room i) (num_of rate) d sized.0) den
-          (subst (λ n. IsSizeFor (room_at room i) n (den_of half) sized.0) num
-          (subst (λ n. IsSizeFor n (num_of half) (den_of half) sized.0)
+      subst (λ d. IsSizeIn kind (room_at room i) (num_of rate) d sized.0) den
+          (subst (λ n. IsSizeIn kind (room_at room i) n (den_of half) sized.0) num
+          (subst (λ n. IsSizeIn kind n (num_of half) (den_of half) sized.0)
           (omega (arith, some, is)) sized.1)),
       refusal,
       sized.2,

@@ -9,6 +9,8 @@ mod GrowingRateLemmas
 mod GrowingRefusalFacts
 mod GrowingRefusalLemmas
 mod GrowingTakesLemmas
+mod KindFacts
+mod KindLemmas
 mod RecentLemmas
 mod RotatingFacts
 mod RotatingLemmas

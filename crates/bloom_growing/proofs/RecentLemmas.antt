@@ -4,10 +4,11 @@ use Rattle.std.proofs.lemmas.Bool.{cases_lt, true≢false}
 use Rattle.std.proofs.lemmas.List.{append-nil, append_assoc}
 use Rattle.std.specs.Cmp.{unsigned_Decides}
 use Rattle.std.specs.Set.{distinct_count, is_member}
-use Rattle.bloom_plain.specs.Filter.{Filter, contains, Inserts}
+use Rattle.bloom_plain.specs.Filter.{Filter}
+use Rattle.bloom_growing.specs.Kinds.{Kind, contains_in, InsertsIn}
 use Rattle.bloom_growing.specs.Rotating.{Rotating, either_contains, Fills, Turns, Receives, ReceivesAll, RecentFoundLaw}
 use Rattle.bloom_growing.proofs.DifferentLemmas.{cut-last, cons-out, suffix, one-more, some-more, last-at}
-use Rattle.bloom_plain.proofs.LawLemmas.{insert_law, kept_by_insert_law}
+use Rattle.bloom_growing.proofs.KindLemmas.{insert-found, insert-keeps}
 
 -- how many different hashes there are
 abbrev count : List ℕ → ℕ
@@ -15,15 +16,15 @@ count hashes = distinct_count nat_eq hashes
 
 -- these hashes came, in order. The newer filter contains each behind which fewer different ones
 -- came than it took, and one of both contains each behind which fewer came than each is for
-record Holds {S : Type 0} (r : Rotating S) (came : List ℕ) : Type 0 where
+record Holds {S : Type 0} (kind : Kind) (r : Rotating S) (came : List ℕ) : Type 0 where
   newer : (front behind : List ℕ) (hash : ℕ) → came ≡ front ++ hash ∷ behind
-      → count behind < r.taken → contains r.newer hash ≡ true
+      → count behind < r.taken → contains_in kind r.newer hash ≡ true
   both : (front behind : List ℕ) (hash : ℕ) → came ≡ front ++ hash ∷ behind
-      → count behind < r.plan.room → either_contains r hash ≡ true
+      → count behind < r.plan.room → either_contains kind r hash ≡ true
 
 -- before any hash came there is nothing to contain
-holds-none : {S : Type 0} (r : Rotating S) → Holds r []
-holds-none r = record {
+holds-none : {S : Type 0} (kind : Kind) (r : Rotating S) → Holds kind r []
+holds-none kind r = record {
   newer = λ front behind hash cut. absurd (none front behind hash cut);
   both = λ front behind hash cut. absurd (none front behind hash cut);
 }
@@ -45,7 +46,8 @@ or-more : (a b c : Bool) → (a ≡ true → c ≡ true) → (a || b) ≡ true �
 or-more true b c more is = or-true-left c b (more refl)
 or-more false b c more is = or-true-right c b is
 
-module _ {S : Type 0} (old : Rotating S) (hash : ℕ) (came : List ℕ) (holds : Holds old came) where
+module _ {S : Type 0} (kind : Kind) (old : Rotating S) (hash : ℕ) (came : List ℕ)
+    (holds : Holds kind old came) where
   -- what stands at a cut behind one more hash
   abbrev Cut : List ℕ → List ℕ → ℕ → Type 0
   Cut front behind other =
@@ -54,7 +56,7 @@ module _ {S : Type 0} (old : Rotating S) (hash : ℕ) (came : List ℕ) (holds :
 
   -- where the newer filter lacks the hash, of the hashes behind one of the last that it took there
   -- are fewer different ones than with this hash
-  fewer : contains old.newer hash ≡ false → (front rest : List ℕ) (other : ℕ)
+  fewer : contains_in kind old.newer hash ≡ false → (front rest : List ℕ) (other : ℕ)
       → came ≡ front ++ other ∷ rest → count (rest ++ hash ∷ []) < old.taken + 1
       → count rest < old.taken
   fewer absent front rest other cut few = by (is_member nat_eq rest hash) refl
@@ -79,25 +81,25 @@ module _ {S : Type 0} (old : Rotating S) (hash : ℕ) (came : List ℕ) (holds :
           ∙ absent))
 
   -- a filter that took the hash has each of the last ones
-  filled-has : (filled : Filter S) → Inserts old.newer hash filled false
-      → contains old.newer hash ≡ false → (front behind : List ℕ) (other : ℕ)
+  filled-has : (filled : Filter S) → InsertsIn kind old.newer hash filled false
+      → contains_in kind old.newer hash ≡ false → (front behind : List ℕ) (other : ℕ)
       → came ++ hash ∷ [] ≡ front ++ other ∷ behind → count behind < old.taken + 1
-      → contains filled other ≡ true
+      → contains_in kind filled other ≡ true
   filled-has filled inserts absent front behind other cut few =
       by (cut-last came front behind hash other cut)
     where
-      by : Cut front behind other → contains filled other ≡ true
+      by : Cut front behind other → contains_in kind filled other ≡ true
       by (inl same) =
-          subst (λ h. contains filled h ≡ true) (sym same)
-          (insert_law S old.newer filled hash false inserts).1
+          subst (λ h. contains_in kind filled h ≡ true) (sym same)
+          (insert-found kind old.newer filled hash false inserts)
       by (inr is) =
-          kept_by_insert_law S old.newer filled hash other false inserts
+          insert-keeps kind old.newer filled hash other false inserts
           (holds.newer front is.0 other is.2
           (fewer absent front is.0 other is.2
           (subst (λ l. count l < old.taken + 1) is.1 few)))
 
   -- the newer filter has the hash, and nothing changed
-  held : contains old.newer hash ≡ true → Holds old (came ++ hash ∷ [])
+  held : contains_in kind old.newer hash ≡ true → Holds kind old (came ++ hash ∷ [])
   held has = record {
     newer = λ front behind other cut few.
         newer front behind other few (cut-last came front behind hash other cut);
@@ -106,25 +108,25 @@ module _ {S : Type 0} (old : Rotating S) (hash : ℕ) (came : List ℕ) (holds :
   }
     where
       newer : (front behind : List ℕ) (other : ℕ) → count behind < old.taken
-          → Cut front behind other → contains old.newer other ≡ true
+          → Cut front behind other → contains_in kind old.newer other ≡ true
       newer front behind other few (inl same) =
-          subst (λ h. contains old.newer h ≡ true) (sym same) has
+          subst (λ h. contains_in kind old.newer h ≡ true) (sym same) has
       newer front behind other few (inr is) =
           holds.newer front is.0 other is.2
           (omega (arith, few, some-more nat_eq unsigned_Decides is.0 hash, ap count is.1))
 
       both : (front behind : List ℕ) (other : ℕ) → count behind < old.plan.room
-          → Cut front behind other → either_contains old other ≡ true
+          → Cut front behind other → either_contains kind old other ≡ true
       both front behind other few (inl same) =
-          or-true-left (contains old.newer other) (contains old.older other)
-          (subst (λ h. contains old.newer h ≡ true) (sym same) has)
+          or-true-left (contains_in kind old.newer other) (contains_in kind old.older other)
+          (subst (λ h. contains_in kind old.newer h ≡ true) (sym same) has)
       both front behind other few (inr is) =
           holds.both front is.0 other is.2
           (omega (arith, few, some-more nat_eq unsigned_Decides is.0 hash, ap count is.1))
 
   -- the newer filter took the hash, and stays the newer one
-  filled : (new : Rotating S) → contains old.newer hash ≡ false → Fills old hash new
-      → new.plan ≡ old.plan → Holds new (came ++ hash ∷ [])
+  filled : (new : Rotating S) → contains_in kind old.newer hash ≡ false → Fills kind old hash new
+      → new.plan ≡ old.plan → Holds kind new (came ++ hash ∷ [])
   filled new absent fills plan = record {
     newer = λ front behind other cut few.
         filled-has new.newer fills.newer absent front behind other cut
@@ -134,16 +136,17 @@ module _ {S : Type 0} (old : Rotating S) (hash : ℕ) (came : List ℕ) (holds :
   }
     where
       both : (front behind : List ℕ) (other : ℕ) → count behind < new.plan.room
-          → Cut front behind other → either_contains new other ≡ true
+          → Cut front behind other → either_contains kind new other ≡ true
       both front behind other few (inl same) =
-          or-true-left (contains new.newer other) (contains new.older other)
-          (subst (λ h. contains new.newer h ≡ true) (sym same)
-          (insert_law S old.newer new.newer hash false fills.newer).1)
+          or-true-left (contains_in kind new.newer other) (contains_in kind new.older other)
+          (subst (λ h. contains_in kind new.newer h ≡ true) (sym same)
+          (insert-found kind old.newer new.newer hash false fills.newer))
       both front behind other few (inr is) =
-          subst (λ f. (contains new.newer other || contains f other) ≡ true) (sym fills.older)
-          (or-more (contains old.newer other) (contains old.older other)
-          (contains new.newer other)
-          (kept_by_insert_law S old.newer new.newer hash other false fills.newer)
+          subst (λ f. (contains_in kind new.newer other || contains_in kind f other) ≡ true)
+          (sym fills.older)
+          (or-more (contains_in kind old.newer other) (contains_in kind old.older other)
+          (contains_in kind new.newer other)
+          (insert-keeps kind old.newer new.newer hash other false fills.newer)
           (holds.both front is.0 other is.2
           (omega (
             arith,
@@ -154,43 +157,45 @@ module _ {S : Type 0} (old : Rotating S) (hash : ℕ) (came : List ℕ) (holds :
           ))))
 
   -- the newer filter took the hash, and became the older one
-  turned : (new : Rotating S) → contains old.newer hash ≡ false → Turns old hash new
-      → new.plan ≡ old.plan → old.plan.room ≤ old.taken + 1 → Holds new (came ++ hash ∷ [])
+  turned : (new : Rotating S) → contains_in kind old.newer hash ≡ false → Turns kind old hash new
+      → new.plan ≡ old.plan → old.plan.room ≤ old.taken + 1 → Holds kind new (came ++ hash ∷ [])
   turned new absent turns plan full = record {
     newer = λ front behind other cut few. absurd (omega (arith, few, turns.taken));
     both = λ front behind other cut few.
-        or-true-right (contains new.newer other) (contains new.older other)
+        or-true-right (contains_in kind new.newer other) (contains_in kind new.older other)
         (filled-has new.older turns.older absent front behind other cut
         (omega (arith, few, ap (λ p. p.room) plan, full)));
   }
 
   -- one more hash came
-  holds-more : (new : Rotating S) (reply : Bool) → Receives old hash new reply
-      → Holds new (came ++ hash ∷ [])
-  holds-more new reply did = by (contains old.newer hash) refl
+  holds-more : (new : Rotating S) (reply : Bool) → Receives kind old hash new reply
+      → Holds kind new (came ++ hash ∷ [])
+  holds-more new reply did = by (contains_in kind old.newer hash) refl
     where
       room : (old.taken + 1 < old.plan.room) ⊎ (old.plan.room ≤ old.taken + 1)
-          → contains old.newer hash ≡ false → Holds new (came ++ hash ∷ [])
+          → contains_in kind old.newer hash ≡ false → Holds kind new (came ++ hash ∷ [])
       room (inl spare) absent = filled new absent (did.fills absent spare) did.plan
       room (inr full) absent = turned new absent (did.turns absent full) did.plan full
 
-      by : (b : Bool) → contains old.newer hash ≡ b → Holds new (came ++ hash ∷ [])
+      by : (b : Bool) → contains_in kind old.newer hash ≡ b → Holds kind new (came ++ hash ∷ [])
       by true is =
-          subst (λ r. Holds r (came ++ hash ∷ [])) (sym (did.held is)) (held is)
+          subst (λ r. Holds kind r (came ++ hash ∷ [])) (sym (did.held is)) (held is)
       by false absent = room (cases_lt (old.taken + 1) old.plan.room) absent
 
 -- and then all of these
-holds-all : {S : Type 0} (old new : Rotating S) (came more : List ℕ) → Holds old came
-    → ReceivesAll old more new → Holds new (came ++ more)
-holds-all old new came [] holds all =
-    subst (Holds new) (sym (append-nil came)) (subst (λ r. Holds r came) (sym all) holds)
-holds-all old new came (hash ∷ more) holds all =
-    subst (Holds new) (append_assoc came (hash ∷ []) more)
-    (holds-all all.0 new (came ++ hash ∷ []) more
-    (holds-more old hash came holds all.0 all.1 all.2) all.3)
+holds-all : {S : Type 0} (kind : Kind) (old new : Rotating S) (came more : List ℕ)
+    → Holds kind old came
+    → ReceivesAll kind old more new → Holds kind new (came ++ more)
+holds-all kind old new came [] holds all =
+    subst (Holds kind new) (sym (append-nil came)) (subst (λ r. Holds kind r came) (sym all) holds)
+holds-all kind old new came (hash ∷ more) holds all =
+    subst (Holds kind new) (append_assoc came (hash ∷ []) more)
+    (holds-all kind all.0 new (came ++ hash ∷ []) more
+    (holds-more kind old hash came holds all.0 all.1 all.2) all.3)
 
 -- a hash that came is contained while fewer different ones came behind it than each filter is for
 pub recent_found_law : (S : Type 0) → RecentFoundLaw S
-recent_found_law S old new earlier later hash all few =
-    (holds-all old new [] (earlier ++ hash ∷ later) (holds-none old) all).both earlier later hash
+recent_found_law S kind old new earlier later hash all few =
+    (holds-all kind old new [] (earlier ++ hash ∷ later) (holds-none kind old) all).both
+    earlier later hash
     refl few

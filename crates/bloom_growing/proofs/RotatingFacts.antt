@@ -6,6 +6,7 @@ use Rattle.bloom_parts.specs.Content.{content}
 use Rattle.bloom_parts.specs.Places.{positions, are_in}
 use Rattle.bloom_plain.specs.Filter.{Filter}
 use Rattle.bloom_growing.specs.Growing.{plan_of}
+use Rattle.bloom_growing.specs.Kinds.{Plain}
 use Rattle.bloom_growing.specs.Rotating.{Rotating, older_taken, either_contains, Fills, Turns, Receives, ReceivesAll}
 use Rattle.bloom_plain.proofs.FilterFacts.{filter}
 use Rattle.bloom_growing.proofs.GrowingFacts.{four, with_one, with_none}
@@ -31,33 +32,36 @@ older_taken-all : older_taken (rotating 3 with_one with_none 0 1) ≡ 3
 older_taken-all = refl
 
 -- a hash is contained that either filter has, and no other
-contains-older : either_contains (rotating 3 with_one with_none 0 1) 1 ≡ true
+contains-older : either_contains Plain (rotating 3 with_one with_none 0 1) 1 ≡ true
 unfolding content chain are_in
 contains-older = refl
 
-contains-newer : either_contains (rotating 3 with_none with_one 1 0) 1 ≡ true
+contains-newer : either_contains Plain (rotating 3 with_none with_one 1 0) 1 ≡ true
 unfolding content chain are_in
 contains-newer = refl
 
-contains-none : either_contains (rotating 3 with_none with_none 0 0) 1 ≡ false
+contains-none : either_contains Plain (rotating 3 with_none with_none 0 0) 1 ≡ false
 unfolding content chain are_in
 contains-none = refl
 
 -- the newer filter takes hash 1, and counts it
-fills-first : Fills (rotating 3 with_none with_none 0 0) 1 (rotating 3 with_none with_one 1 0)
+fills-first : Fills Plain (rotating 3 with_none with_none 0 0) 1 (rotating 3 with_none with_one 1 0)
 fills-first = record { older = refl; newer = inserts-first; taken = refl; turns = refl }
 
-fills-uncounted : Fills (rotating 3 with_none with_none 0 0) 1 (rotating 3 with_none with_one 0 0)
+fills-uncounted : Fills Plain (rotating 3 with_none with_none 0 0) 1
+    (rotating 3 with_none with_one 0 0)
     → ⊥
 fills-uncounted fills = let wrong : 0 ≡ 1 = fills.taken in omega (arith, wrong)
 
 -- the older one doesn't take it
-fills-older : Fills (rotating 3 with_none with_none 0 0) 1 (rotating 3 with_one with_none 1 0) → ⊥
+fills-older : Fills Plain (rotating 3 with_none with_none 0 0) 1 (rotating 3 with_one with_none 1 0)
+    → ⊥
 unfolding content positions chain
 fills-older fills = let wrong : false ≡ true = fills.newer.bits 20 in cc
 
 -- no filter is cleared while there is room
-fills-turned : Fills (rotating 3 with_none with_none 0 0) 1 (rotating 3 with_one with_none 0 1) → ⊥
+fills-turned : Fills Plain (rotating 3 with_none with_none 0 0) 1
+    (rotating 3 with_one with_none 0 1) → ⊥
 fills-turned fills = let wrong : 1 ≡ 0 = fills.turns in omega (arith, wrong)
 
 -- a filter with another word, which is cleared
@@ -65,31 +69,35 @@ abbrev pub with_five : Filter ℕ
 with_five = filter (5 ∷ []) 2 7
 
 -- the newer filter takes hash 1, and becomes the older one, and the older one is cleared
-turns-first : Turns (rotating 1 with_five with_none 0 4) 1 (rotating 1 with_one with_none 0 5)
+turns-first : Turns Plain (rotating 1 with_five with_none 0 4) 1 (rotating 1 with_one with_none 0 5)
 turns-first = record { older = inserts-first; newer = clears; taken = refl; turns = refl }
 
 -- the older one isn't left as it is
-turns-uncleared : Turns (rotating 1 with_five with_none 0 4) 1 (rotating 1 with_one with_five 0 5)
+turns-uncleared : Turns Plain (rotating 1 with_five with_none 0 4) 1
+    (rotating 1 with_one with_five 0 5)
     → ⊥
 unfolding content
 turns-uncleared turns = let wrong : true ≡ false = turns.newer.bits 2 in cc
 
 -- both aren't cleared
-turns-both : Turns (rotating 1 with_five with_none 0 4) 1 (rotating 1 with_none with_none 0 5) → ⊥
+turns-both : Turns Plain (rotating 1 with_five with_none 0 4) 1 (rotating 1 with_none with_none 0 5)
+    → ⊥
 unfolding content positions chain
 turns-both turns = let wrong : false ≡ true = turns.older.bits 20 in cc
 
 -- the count begins anew
-turns-counted : Turns (rotating 1 with_five with_none 0 4) 1 (rotating 1 with_one with_none 1 5) → ⊥
+turns-counted : Turns Plain (rotating 1 with_five with_none 0 4) 1
+    (rotating 1 with_one with_none 1 5) → ⊥
 turns-counted turns = let wrong : 1 ≡ 0 = turns.taken in omega (arith, wrong)
 
 -- the turn counts
-turns-uncounted : Turns (rotating 1 with_five with_none 0 4) 1 (rotating 1 with_one with_none 0 4)
+turns-uncounted : Turns Plain (rotating 1 with_five with_none 0 4) 1
+    (rotating 1 with_one with_none 0 4)
     → ⊥
 turns-uncounted turns = let wrong : 4 ≡ 5 = turns.turns in omega (arith, wrong)
 
 -- a hash that no filter contains is taken where there is room for two
-receives-first : Receives (rotating 2 with_five with_none 0 4) 1
+receives-first : Receives Plain (rotating 2 with_five with_none 0 4) 1
     (rotating 2 with_five with_one 1 4) false
 unfolding content chain are_in
 receives-first = record {
@@ -101,14 +109,14 @@ receives-first = record {
 }
 
 -- the filter doesn't turn over early
-receives-early : Receives (rotating 2 with_five with_none 0 4) 1
+receives-early : Receives Plain (rotating 2 with_five with_none 0 4) 1
     (rotating 2 with_one with_none 0 5) false → ⊥
 unfolding content chain are_in
 receives-early did =
     let wrong : 5 ≡ 4 = (did.fills refl (lit< tt)).turns in omega (arith, wrong)
 
 -- it turns over once its room is taken
-pub receives-last : Receives (rotating 1 with_five with_none 0 4) 1
+pub receives-last : Receives Plain (rotating 1 with_five with_none 0 4) 1
     (rotating 1 with_one with_none 0 5) false
 unfolding content chain are_in
 receives-last = record {
@@ -120,14 +128,14 @@ receives-last = record {
 }
 
 -- it doesn't turn over late
-receives-late : Receives (rotating 1 with_five with_none 0 4) 1
+receives-late : Receives Plain (rotating 1 with_five with_none 0 4) 1
     (rotating 1 with_five with_one 1 4) false → ⊥
 unfolding content chain are_in
 receives-late did =
     let wrong : 4 ≡ 5 = (did.turns refl (lit≤ tt)).turns in omega (arith, wrong)
 
 -- a hash that the older filter contains is taken by the newer one, too
-receives-again : Receives (rotating 2 with_one with_none 0 4) 1
+receives-again : Receives Plain (rotating 2 with_one with_none 0 4) 1
     (rotating 2 with_one with_one 1 4) true
 unfolding content chain are_in
 receives-again = record {
@@ -139,20 +147,20 @@ receives-again = record {
 }
 
 -- it isn't left to age
-receives-aging : Receives (rotating 2 with_one with_none 0 4) 1
+receives-aging : Receives Plain (rotating 2 with_one with_none 0 4) 1
     (rotating 2 with_one with_none 0 4) true → ⊥
 unfolding content chain are_in
 receives-aging did =
     let wrong : 0 ≡ 1 = (did.fills refl (lit< tt)).taken in omega (arith, wrong)
 
 -- nor is its insert answered false
-receives-again_false : Receives (rotating 2 with_one with_none 0 4) 1
+receives-again_false : Receives Plain (rotating 2 with_one with_none 0 4) 1
     (rotating 2 with_one with_one 1 4) false → ⊥
 unfolding content chain are_in
 receives-again_false did = let wrong : false ≡ true = did.answers in cc
 
 -- a hash that the newer filter contains changes nothing
-receives-held : Receives (rotating 2 with_five with_one 1 4) 1
+receives-held : Receives Plain (rotating 2 with_five with_one 1 4) 1
     (rotating 2 with_five with_one 1 4) true
 unfolding content chain are_in
 receives-held = record {
@@ -164,18 +172,18 @@ receives-held = record {
 }
 
 -- it isn't counted
-receives-held_counted : Receives (rotating 3 with_five with_one 1 4) 1
+receives-held_counted : Receives Plain (rotating 3 with_five with_one 1 4) 1
     (rotating 3 with_five with_one 2 4) true → ⊥
 unfolding content chain are_in
 receives-held_counted did =
     let wrong : 2 ≡ 1 = ap (λ r. r.taken) (did.held refl) in omega (arith, wrong)
 
 -- no list changes nothing
-receives_all-none : ReceivesAll (rotating 3 with_five with_one 1 4) []
+receives_all-none : ReceivesAll Plain (rotating 3 with_five with_one 1 4) []
     (rotating 3 with_five with_one 1 4)
 receives_all-none = refl
 
-receives_all-none_counted : ReceivesAll (rotating 3 with_five with_one 1 4) []
+receives_all-none_counted : ReceivesAll Plain (rotating 3 with_five with_one 1 4) []
     (rotating 3 with_five with_one 2 4) → ⊥
 receives_all-none_counted all =
     let wrong : 2 ≡ 1 = ap (λ r. r.taken) all in omega (arith, wrong)

@@ -8,6 +8,7 @@ use Rattle.bloom_parts.specs.Places.{are_in}
 use Rattle.bloom_plain.specs.Filter.{Filter, Clears}
 use Rattle.bloom_growing.specs.Growing.{Plan, plan_of, IsNumber}
 use Rattle.bloom_growing.specs.GrowingRates.{part_now, part_after}
+use Rattle.bloom_growing.specs.Kinds.{Plain}
 use Rattle.bloom_growing.specs.Rotating.{Rotating, either_contains, IsRotating, IsUnused, Receives, ReceivesAll, RecentFoundLaw, both_now, both_taken}
 use Rattle.bloom_plain.proofs.CaseLemmas.{content-case}
 use Rattle.bloom_plain.proofs.FilterFacts.{filter}
@@ -37,7 +38,7 @@ for_one = filter (0 ∷ []) 44 7
 abbrev for_two : Filter ℕ
 for_two = filter (0 ∷ []) 22 7
 
-number-one : IsNumber plan 0 for_one
+number-one : IsNumber Plain plan 0 for_one
 number-one = record {
   rate = rate 4 4 (lit< tt) (lit< tt);
   num = refl;
@@ -45,13 +46,13 @@ number-one = record {
   is_made = (64, (0, halvings-none, refl), refl);
 }
 
-number-two : IsNumber plan 0 for_two → ⊥
+number-two : IsNumber Plain plan 0 for_two → ⊥
 number-two is =
     let wrong : 22 ≡ 44 = ap (λ f. f.hashes) (only-number plan 0 0 _ halvings-none is) in
     omega (arith, wrong)
 
 -- both filters are new, for one item
-unused : IsUnused plan (planned for_one for_one 0 0)
+unused : IsUnused Plain plan (planned for_one for_one 0 0)
 unused = record {
   plan = refl;
   older = number-one;
@@ -60,36 +61,37 @@ unused = record {
   turns = refl;
 }
 
-unused-older : IsUnused plan (planned for_two for_one 0 0) → ⊥
+unused-older : IsUnused Plain plan (planned for_two for_one 0 0) → ⊥
 unused-older is = number-two is.older
 
-unused-newer : IsUnused plan (planned for_one for_two 0 0) → ⊥
+unused-newer : IsUnused Plain plan (planned for_one for_two 0 0) → ⊥
 unused-newer is = number-two is.newer
 
-unused-counted : IsUnused plan (planned for_one for_one 1 0) → ⊥
+unused-counted : IsUnused Plain plan (planned for_one for_one 1 0) → ⊥
 unused-counted is = let wrong : 1 ≡ 0 = is.taken in omega (arith, wrong)
 
-unused-turned : IsUnused plan (planned for_one for_one 0 1) → ⊥
+unused-turned : IsUnused Plain plan (planned for_one for_one 0 1) → ⊥
 unused-turned is = let wrong : 1 ≡ 0 = is.turns in omega (arith, wrong)
 
 -- new filters keep the rule
-rule-unused : IsRotating (planned for_one for_one 0 0)
-rule-unused = rotating-none (planned for_one for_one 0 0) (lit≤ tt) number-one number-one refl refl
+rule-unused : IsRotating Plain (planned for_one for_one 0 0)
+rule-unused =
+    rotating-none Plain (planned for_one for_one 0 0) (lit≤ tt) number-one number-one refl refl
 
 -- the newer filter has room
-rule-full : IsRotating (planned for_one for_one 1 0) → ⊥
+rule-full : IsRotating Plain (planned for_one for_one 1 0) → ⊥
 rule-full is = omega (arith, is.has_room)
 
 -- after a turn the older filter isn't empty
-rule-turned : IsRotating (planned for_one for_one 0 1) → ⊥
+rule-turned : IsRotating Plain (planned for_one for_one 0 1) → ⊥
 rule-turned is =
-    took-list plan 0 is.older.made for_one is.older.hashes number-one is.older.did
+    took-list Plain plan 0 is.older.made for_one is.older.hashes number-one is.older.did
     (omega (arith, is.older.counted))
 
 -- hash 1 came, and no other: it is contained
-recent-used : RecentFoundLaw ℕ → either_contains (rotating 1 with_one with_none 0 5) 1 ≡ true
+recent-used : RecentFoundLaw ℕ → either_contains Plain (rotating 1 with_one with_none 0 5) 1 ≡ true
 recent-used law =
-    law (rotating 1 with_five with_none 0 4) (rotating 1 with_one with_none 0 5) [] [] 1
+    law Plain (rotating 1 with_five with_none 0 4) (rotating 1 with_one with_none 0 5) [] [] 1
     (rotating 1 with_one with_none 0 5, false, receives-last, refl) (lit< tt)
 
 -- a word that is cleared
@@ -102,7 +104,7 @@ cleared word = record {
 }
 
 -- hash 0 came behind it, which is a false positive of the older filter
-receives-next : Receives (rotating 1 with_one with_none 0 5) 0
+receives-next : Receives Plain (rotating 1 with_one with_none 0 5) 0
     (rotating 1 (filter (1 ∷ []) 2 7) with_none 0 6) true
 unfolding content chain are_in
 receives-next = record {
@@ -119,7 +121,7 @@ receives-next = record {
 }
 
 -- behind hash 1 one other came, and a filter for one item forgot it
-forgets : ReceivesAll (rotating 1 with_five with_none 0 4) (1 ∷ 0 ∷ [])
+forgets : ReceivesAll Plain (rotating 1 with_five with_none 0 4) (1 ∷ 0 ∷ [])
     (rotating 1 (filter (1 ∷ []) 2 7) with_none 0 6)
 forgets = (
   rotating 1 with_one with_none 0 5,
@@ -128,7 +130,7 @@ forgets = (
   (rotating 1 (filter (1 ∷ []) 2 7) with_none 0 6, true, receives-next, refl),
 )
 
-forgotten : either_contains (rotating 1 (filter (1 ∷ []) 2 7) with_none 0 6) 1 ≡ false
+forgotten : either_contains Plain (rotating 1 (filter (1 ∷ []) 2 7) with_none 0 6) 1 ≡ false
 unfolding content chain are_in
 forgotten = refl
 

@@ -1,17 +1,16 @@
 -- A filter that grows: Bloom filters one after the other, each for twice the items of the one
 -- before it at half its rate (P. S. Almeida, C. Baquero, N. Preguiça and D. Hutchison, "Scalable
 -- Bloom Filters", 2007, with growth 2 and tightening 1/2).
-use Rattle.std.specs.Prelude.{◌≡◌, ℕ, ◌+◌, ◌*◌, ◌^◌, ◌≤◌, Bool, false, List, [], ◌∷◌, ◌++◌, length, map, All, ⊤}
+use Rattle.std.specs.Prelude.{◌≡◌, ℕ, ◌+◌, ◌*◌, ◌^◌, ◌≤◌, Bool, false, List, [], ◌∷◌, ◌++◌, length, All, ⊤}
 use Rattle.std.specs.List.{list_any}
 use Rattle.bloom_parts.specs.declared.hasher.CloneBuildHasher.{CloneBuildHasher}
 use Rattle.bloom_parts.specs.declared.hasher.sip.RandomDefaultHasher.{RandomDefaultHasher}
 use Rattle.bloom_parts.specs.declared.math.rate.Rate.{Rate}
 use Rattle.bloom_parts.specs.Keys.{HasKey}
-use Rattle.bloom_parts.specs.Operations.{Insert}
 use Rattle.bloom_parts.specs.Rates.{num_of, den_of}
-use Rattle.bloom_plain.specs.Builders.{RateStart, IsMadeFor}
-use Rattle.bloom_plain.specs.Filter.{Filter, contains}
-use Rattle.bloom_plain.specs.Replies.{CarriesOut}
+use Rattle.bloom_plain.specs.Builders.{RateStart}
+use Rattle.bloom_plain.specs.Filter.{Filter}
+use Rattle.bloom_growing.specs.Kinds.{Kind, contains_in, InsertsNew, IsMadeIn}
 
 -- what was asked for: a rate, which the rates that the filters are sized for stay below together,
 -- the room of the first filter, which is the number of items that it is made for, and the hasher of
@@ -50,43 +49,46 @@ newest_room g = room_at g.plan.room (length g.older)
 abbrev pub rate_start : {S : Type 0} → Rate → S → RateStart S
 rate_start rate hasher = record { rate = rate; hasher = hasher }
 
--- this is the filter that the builders make for number i
-pub record IsNumber {S : Type 0} (plan : Plan S) (i : ℕ) (made : Filter S) : Type 0 where
-  pub rate : Rate
-  pub num : num_of rate ≡ num_of plan.rate
-  pub den : den_of rate ≡ den_at plan.rate i
-  pub is_made : IsMadeFor (rate_start rate plan.hasher) (room_at plan.room i) made
+-- this is the filter that the builders of a kind make for number i
+pub record IsNumber {S : Type 0} (kind : Kind) (plan : Plan S) (i : ℕ) (made : Filter S) : Type 0
+  where
+    pub rate : Rate
+    pub num : num_of rate ≡ num_of plan.rate
+    pub den : den_of rate ≡ den_at plan.rate i
+    pub is_made : IsMadeIn kind (rate_start rate plan.hasher) (room_at plan.room i) made
 
 -- whether one of some filters contains a hash
-abbrev pub any_contains : {S : Type 0} → List (Filter S) → ℕ → Bool
-any_contains filters hash = list_any (λ f. contains f hash) filters
+abbrev pub any_contains : {S : Type 0} → Kind → List (Filter S) → ℕ → Bool
+any_contains kind filters hash = list_any (λ f. contains_in kind f hash) filters
 
 -- whether a filter that grows contains a hash
-abbrev pub has : {S : Type 0} → Growing S → ℕ → Bool
-has g hash = any_contains (g.older ++ g.newest ∷ []) hash
+abbrev pub has : {S : Type 0} → Kind → Growing S → ℕ → Bool
+has kind g hash = any_contains kind (g.older ++ g.newest ∷ []) hash
 
 -- a filter was made as the next behind these older ones, and then took this many hashes. None of
 -- them was contained in it, or in an older one, when it came
-pub record Took {S : Type 0} (plan : Plan S) (older : List (Filter S)) (count : ℕ)
+pub record Took {S : Type 0} (kind : Kind) (plan : Plan S) (older : List (Filter S)) (count : ℕ)
     (filter : Filter S) : Type 0 where
   pub made : Filter S
-  pub is_made : IsNumber plan (length older) made
+  pub is_made : IsNumber kind plan (length older) made
   pub hashes : List ℕ
   pub counted : length hashes ≡ count
-  pub new : All (λ hash. any_contains older hash ≡ false) hashes
-  pub did : CarriesOut made (map Insert hashes) filter (map (λ _. false) hashes)
+  pub new : All (λ hash. any_contains kind older hash ≡ false) hashes
+  pub did : InsertsNew kind made hashes filter
 
 -- each of these filters, which stand behind those before them, took as many hashes as its room
-abbrev pub AreFull : {S : Type 0} → Plan S → List (Filter S) → List (Filter S) → Type 0
-AreFull {S} plan before [] = ⊤
-AreFull {S} plan before (f ∷ later) =
-    Took plan before (room_at plan.room (length before)) f × AreFull plan (before ++ f ∷ []) later
+abbrev pub AreFull :
+    {S : Type 0} → Kind → Plan S → List (Filter S) → List (Filter S) → Type 0
+AreFull kind plan before [] = ⊤
+AreFull kind plan before (f ∷ later) =
+    Took kind plan before (room_at plan.room (length before)) f
+    × AreFull kind plan (before ++ f ∷ []) later
 
 -- the rule of a filter that grows: all filters but the newest are full
-pub record IsGrown {S : Type 0} (g : Growing S) : Type 0 where
+pub record IsGrown {S : Type 0} (kind : Kind) (g : Growing S) : Type 0 where
   pub some_room : 1 ≤ g.plan.room
-  pub full : AreFull g.plan [] g.older
-  pub newest : Took g.plan g.older g.taken g.newest
+  pub full : AreFull kind g.plan [] g.older
+  pub newest : Took kind g.plan g.older g.taken g.newest
   pub most : g.taken ≤ newest_room g
 
 -- the default hasher has some key, and has taken in nothing
@@ -94,9 +96,9 @@ abbrev pub IsKeyed : CloneBuildHasher RandomDefaultHasher → Type 0
 IsKeyed hasher = (k0 : ℕ) × (k1 : ℕ) × HasKey hasher k0 k1
 
 -- what a filter that grows keeps: the rule, a key, and the rate and the room of its newest filter
-pub record IsKept (g : Growing (CloneBuildHasher RandomDefaultHasher)) (rate : Rate) (room : ℕ)
-    : Type 0 where
-  pub grown : IsGrown g
+pub record IsKept (kind : Kind) (g : Growing (CloneBuildHasher RandomDefaultHasher)) (rate : Rate)
+    (room : ℕ) : Type 0 where
+  pub grown : IsGrown kind g
   pub key : IsKeyed g.plan.hasher
   pub num : num_of rate ≡ num_of g.plan.rate
   pub den : den_of rate ≡ den_at g.plan.rate (length g.older)

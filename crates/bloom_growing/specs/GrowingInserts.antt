@@ -6,48 +6,48 @@ use Rattle.std.specs.Option.{option_map}
 use Rattle.bloom_parts.specs.declared.error.FilterError.{FilterError}
 use Rattle.bloom_parts.specs.declared.math.rate.Rate.{Rate}
 use Rattle.bloom_parts.specs.Rates.{num_of}
-use Rattle.bloom_parts.specs.Sizing.{IsSizeFor}
-use Rattle.bloom_plain.specs.Builders.{size_refusal, RefusesAs}
-use Rattle.bloom_plain.specs.Filter.{Inserts}
+use Rattle.bloom_plain.specs.Builders.{RefusesAs}
 use Rattle.bloom_growing.specs.declared.growing.error.GrowingError.{GrowingError}
 use Rattle.bloom_growing.specs.declared.growing.error.GrowingError.TheVariants.{RateOverflow, TooManyItems, Filter}
 use Rattle.bloom_growing.specs.Growing.{Plan, Growing, IsNumber, room_at, den_at, newest_room, has}
+use Rattle.bloom_growing.specs.Kinds.{Kind, InsertsIn, IsSizeIn, size_refusal_in}
 
 -- a filter that grows is new: this was asked for, and its one filter is empty
-pub record IsBegun {S : Type 0} (asked : Plan S) (g : Growing S) : Type 0 where
+pub record IsBegun {S : Type 0} (kind : Kind) (asked : Plan S) (g : Growing S) : Type 0 where
   pub plan : g.plan ≡ asked
   pub older : g.older ≡ []
-  pub newest : IsNumber asked 0 g.newest
+  pub newest : IsNumber kind asked 0 g.newest
   pub taken : g.taken ≡ 0
 
 -- the next filter was begun, and the newest one became an older one
-pub record Begins {S : Type 0} (old new : Growing S) : Type 0 where
+pub record Begins {S : Type 0} (kind : Kind) (old new : Growing S) : Type 0 where
   pub plan : new.plan ≡ old.plan
   pub older : new.older ≡ old.older ++ old.newest ∷ []
-  pub newest : IsNumber old.plan (length old.older + 1) new.newest
+  pub newest : IsNumber kind old.plan (length old.older + 1) new.newest
   pub taken : new.taken ≡ 0
 
 -- room was made for one more hash: the next filter was begun if the newest was full, and else
 -- nothing changed
-pub record MakesRoom {S : Type 0} (old new : Growing S) : Type 0 where
+pub record MakesRoom {S : Type 0} (kind : Kind) (old new : Growing S) : Type 0 where
   pub spare : old.taken < newest_room old → new ≡ old
-  pub full : newest_room old ≤ old.taken → Begins old new
+  pub full : newest_room old ≤ old.taken → Begins kind old new
 
 -- the newest filter took one more hash, which it didn't contain
-pub record Adds {S : Type 0} (old : Growing S) (hash : ℕ) (new : Growing S) : Type 0 where
-  pub plan : new.plan ≡ old.plan
-  pub older : new.older ≡ old.older
-  pub newest : Inserts old.newest hash new.newest false
-  pub taken : new.taken ≡ old.taken + 1
+pub record Adds {S : Type 0} (kind : Kind) (old : Growing S) (hash : ℕ) (new : Growing S) : Type 0
+  where
+    pub plan : new.plan ≡ old.plan
+    pub older : new.older ≡ old.older
+    pub newest : InsertsIn kind old.newest hash new.newest false
+    pub taken : new.taken ≡ old.taken + 1
 
 -- an insert took the old filters to the new: the reply is whether one of them contained the hash.
 -- If so nothing changed, and else the newest took it, once room was made
-pub record Takes {S : Type 0} (old : Growing S) (hash : ℕ) (new : Growing S) (reply : Bool)
-    : Type 0 where
-  pub answers : reply ≡ has old hash
-  pub held : has old hash ≡ true → new ≡ old
-  pub adds : has old hash ≡ false
-      → (roomy : Growing S) × MakesRoom old roomy × Adds roomy hash new
+pub record Takes {S : Type 0} (kind : Kind) (old : Growing S) (hash : ℕ) (new : Growing S)
+    (reply : Bool) : Type 0 where
+  pub answers : reply ≡ has kind old hash
+  pub held : has kind old hash ≡ true → new ≡ old
+  pub adds : has kind old hash ≡ false
+      → (roomy : Growing S) × MakesRoom kind old roomy × Adds kind roomy hash new
 
 -- what a filter that grows tells of what the builders tell of its next filter
 abbrev pub of_builders : Option FilterError → Option GrowingError
@@ -55,19 +55,20 @@ of_builders refusal = option_map Filter refusal
 
 -- filter number i is refused as listed here: for its rate, for its room, or as the builders refuse
 -- its size. Where nothing is listed, it is made, or there is no memory for it
-pub record RefusesNumber (rate : Rate) (room i : ℕ) (error : Option GrowingError) : Type 0 where
+pub record RefusesNumber (kind : Kind) (rate : Rate) (room i : ℕ) (error : Option GrowingError)
+    : Type 0 where
   pub rate_refused : 2 ^ 64 ≤ den_at rate i → error ≡ Some RateOverflow
   pub room_refused : den_at rate i < 2 ^ 64 → 2 ^ 64 ≤ room_at room i → error ≡ Some TooManyItems
   pub size_refused : den_at rate i < 2 ^ 64 → room_at room i < 2 ^ 64
-      → (bits : ℕ) × IsSizeFor (room_at room i) (num_of rate) (den_at rate i) bits
-      × (refusal : Option FilterError) × RefusesAs (size_refusal bits) refusal
+      → (bits : ℕ) × IsSizeIn kind (room_at room i) (num_of rate) (den_at rate i) bits
+      × (refusal : Option FilterError) × RefusesAs (size_refusal_in kind bits) refusal
       × (error ≡ of_builders refusal)
 
 -- an insert is refused only where the next filter is: no filter contains the hash, and the newest
 -- is full
-pub record RefusesInsert {S : Type 0} (g : Growing S) (hash : ℕ) (error : Option GrowingError)
-    : Type 0 where
-  pub held : has g hash ≡ true → error ≡ None
+pub record RefusesInsert {S : Type 0} (kind : Kind) (g : Growing S) (hash : ℕ)
+    (error : Option GrowingError) : Type 0 where
+  pub held : has kind g hash ≡ true → error ≡ None
   pub spare : g.taken < newest_room g → error ≡ None
-  pub full : has g hash ≡ false → newest_room g ≤ g.taken
-      → RefusesNumber g.plan.rate g.plan.room (length g.older + 1) error
+  pub full : has kind g hash ≡ false → newest_room g ≤ g.taken
+      → RefusesNumber kind g.plan.rate g.plan.room (length g.older + 1) error

@@ -4,22 +4,23 @@ use Rattle.bloom_parts.specs.Rates.{num_of, den_of}
 use Rattle.bloom_parts.specs.declared.math.rate.Rate.{Rate}
 use Rattle.bloom_growing.specs.Growing.{Growing, has, den_at}
 use Rattle.bloom_growing.specs.GrowingInserts.{Takes}
+use Rattle.bloom_growing.specs.Kinds.{Kind}
 
 -- from old to new the hashes of a list came, in order
-abbrev pub TakesAll : {S : Type 0} → Growing S → List ℕ → Growing S → Type 0
-TakesAll {S} old [] new = new ≡ old
-TakesAll {S} old (hash ∷ later) new =
-    (next : Growing S) × (reply : Bool) × Takes old hash next reply × TakesAll next later new
+abbrev pub TakesAll : {S : Type 0} → Kind → Growing S → List ℕ → Growing S → Type 0
+TakesAll kind old [] new = new ≡ old
+TakesAll {S} kind old (hash ∷ later) new = (next : Growing S) × (reply : Bool)
+    × Takes kind old hash next reply × TakesAll kind next later new
 
 -- a hash that is contained stays contained, whatever comes
 abbrev pub GrowingKeptLaw : (S : Type 0) → Type 0
-GrowingKeptLaw S = (old new : Growing S) (hashes : List ℕ) (hash : ℕ) → TakesAll old hashes new
-    → has old hash ≡ true → has new hash ≡ true
+GrowingKeptLaw S = (kind : Kind) (old new : Growing S) (hashes : List ℕ) (hash : ℕ)
+    → TakesAll kind old hashes new → has kind old hash ≡ true → has kind new hash ≡ true
 
 -- a hash that came is contained from then on
 abbrev pub GrowingFoundLaw : (S : Type 0) → Type 0
-GrowingFoundLaw S = (old new : Growing S) (earlier later : List ℕ) (hash : ℕ)
-    → TakesAll old (earlier ++ hash ∷ later) new → has new hash ≡ true
+GrowingFoundLaw S = (kind : Kind) (old new : Growing S) (earlier later : List ℕ) (hash : ℕ)
+    → TakesAll kind old (earlier ++ hash ∷ later) new → has kind new hash ≡ true
 
 -- the sum of the rates that the first m filters are sized for, as a fraction: its upper and its
 -- lower part

@@ -3,9 +3,10 @@
 -- "Aging Bloom Filter with Two Active Buffers for Dynamic Sets", 2010.
 use Rattle.std.specs.Prelude.{◌≡◌, ℕ, ◌+◌, ◌-◌, ◌^◌, ◌<◌, ◌≤◌, min, Bool, true, false, ◌||◌, List, [], ◌∷◌, ◌++◌, nat_eq, if◌then◌else◌}
 use Rattle.std.specs.Set.{distinct_count}
-use Rattle.bloom_plain.specs.Filter.{Filter, contains, Inserts, Clears}
+use Rattle.bloom_plain.specs.Filter.{Filter, Clears}
 use Rattle.bloom_growing.specs.Growing.{Plan, IsNumber, Took}
 use Rattle.bloom_growing.specs.GrowingRates.{Part, part_now, part_after}
+use Rattle.bloom_growing.specs.Kinds.{Kind, contains_in, InsertsIn}
 
 -- a filter that rotates: what was asked for (the rate of both filters together, the number of items
 -- that each is for, and the hasher), its two filters, how many new hashes the newer one took, and
@@ -22,36 +23,38 @@ abbrev pub older_taken : {S : Type 0} → Rotating S → ℕ
 older_taken r = if nat_eq r.turns 0 then 0 else r.plan.room
 
 -- whether one of both filters contains a hash
-abbrev pub either_contains : {S : Type 0} → Rotating S → ℕ → Bool
-either_contains r hash = contains r.newer hash || contains r.older hash
+abbrev pub either_contains : {S : Type 0} → Kind → Rotating S → ℕ → Bool
+either_contains kind r hash = contains_in kind r.newer hash || contains_in kind r.older hash
 
 -- the rule of a filter that rotates: the newer filter has room, and each filter is the builders'
 -- for these items at half the rate, with hashes inserted, each of which it didn't contain when it
 -- came
-pub record IsRotating {S : Type 0} (r : Rotating S) : Type 0 where
+pub record IsRotating {S : Type 0} (kind : Kind) (r : Rotating S) : Type 0 where
   pub has_room : r.taken < r.plan.room
-  pub older : Took r.plan [] (older_taken r) r.older
-  pub newer : Took r.plan [] r.taken r.newer
+  pub older : Took kind r.plan [] (older_taken r) r.older
+  pub newer : Took kind r.plan [] r.taken r.newer
 
 -- a filter that rotates is new: this was asked for, and both filters are empty
-pub record IsUnused {S : Type 0} (asked : Plan S) (r : Rotating S) : Type 0 where
+pub record IsUnused {S : Type 0} (kind : Kind) (asked : Plan S) (r : Rotating S) : Type 0 where
   pub plan : r.plan ≡ asked
-  pub older : IsNumber asked 0 r.older
-  pub newer : IsNumber asked 0 r.newer
+  pub older : IsNumber kind asked 0 r.older
+  pub newer : IsNumber kind asked 0 r.newer
   pub taken : r.taken ≡ 0
   pub turns : r.turns ≡ 0
 
 -- the newer filter took one more hash, which it didn't contain
-pub record Fills {S : Type 0} (old : Rotating S) (hash : ℕ) (new : Rotating S) : Type 0 where
+pub record Fills {S : Type 0} (kind : Kind) (old : Rotating S) (hash : ℕ) (new : Rotating S)
+    : Type 0 where
   pub older : new.older ≡ old.older
-  pub newer : Inserts old.newer hash new.newer false
+  pub newer : InsertsIn kind old.newer hash new.newer false
   pub taken : new.taken ≡ old.taken + 1
   pub turns : new.turns ≡ old.turns
 
 -- the newer filter took the last hash for which it had room: it became the older one, and the older
 -- one was cleared. Turns are counted up to 2^64 - 1
-pub record Turns {S : Type 0} (old : Rotating S) (hash : ℕ) (new : Rotating S) : Type 0 where
-  pub older : Inserts old.newer hash new.older false
+pub record Turns {S : Type 0} (kind : Kind) (old : Rotating S) (hash : ℕ) (new : Rotating S)
+    : Type 0 where
+  pub older : InsertsIn kind old.newer hash new.older false
   pub newer : Clears old.older new.newer
   pub taken : new.taken ≡ 0
   pub turns : new.turns ≡ min (old.turns + 1) (2 ^ 64 - 1)
@@ -59,25 +62,27 @@ pub record Turns {S : Type 0} (old : Rotating S) (hash : ℕ) (new : Rotating S)
 -- an insert took the old filters to the new: the reply is whether one of them contained the hash.
 -- Where the newer one did, nothing changed. Else that one took the hash, also where the older one
 -- contained it
-pub record Receives {S : Type 0} (old : Rotating S) (hash : ℕ) (new : Rotating S) (reply : Bool)
-    : Type 0 where
-  pub answers : reply ≡ either_contains old hash
+pub record Receives {S : Type 0} (kind : Kind) (old : Rotating S) (hash : ℕ) (new : Rotating S)
+    (reply : Bool) : Type 0 where
+  pub answers : reply ≡ either_contains kind old hash
   pub plan : new.plan ≡ old.plan
-  pub held : contains old.newer hash ≡ true → new ≡ old
-  pub fills : contains old.newer hash ≡ false → old.taken + 1 < old.plan.room → Fills old hash new
-  pub turns : contains old.newer hash ≡ false → old.plan.room ≤ old.taken + 1 → Turns old hash new
+  pub held : contains_in kind old.newer hash ≡ true → new ≡ old
+  pub fills : contains_in kind old.newer hash ≡ false → old.taken + 1 < old.plan.room
+      → Fills kind old hash new
+  pub turns : contains_in kind old.newer hash ≡ false → old.plan.room ≤ old.taken + 1
+      → Turns kind old hash new
 
 -- from old to new the hashes of a list came, in order
-abbrev pub ReceivesAll : {S : Type 0} → Rotating S → List ℕ → Rotating S → Type 0
-ReceivesAll {S} old [] new = new ≡ old
-ReceivesAll {S} old (hash ∷ later) new =
-    (next : Rotating S) × (reply : Bool) × Receives old hash next reply × ReceivesAll next later new
+abbrev pub ReceivesAll : {S : Type 0} → Kind → Rotating S → List ℕ → Rotating S → Type 0
+ReceivesAll kind old [] new = new ≡ old
+ReceivesAll {S} kind old (hash ∷ later) new = (next : Rotating S) × (reply : Bool)
+    × Receives kind old hash next reply × ReceivesAll kind next later new
 
 -- a hash that came is contained while fewer different ones came behind it than each filter is for
 abbrev pub RecentFoundLaw : (S : Type 0) → Type 0
-RecentFoundLaw S = (old new : Rotating S) (earlier later : List ℕ) (hash : ℕ)
-    → ReceivesAll old (earlier ++ hash ∷ later) new
-    → distinct_count nat_eq later < new.plan.room → either_contains new hash ≡ true
+RecentFoundLaw S = (kind : Kind) (old new : Rotating S) (earlier later : List ℕ) (hash : ℕ)
+    → ReceivesAll kind old (earlier ++ hash ∷ later) new
+    → distinct_count nat_eq later < new.plan.room → either_contains kind new hash ≡ true
 
 -- the rates of both filters as they are
 abbrev pub both_now : {S : Type 0} → Rotating S → List Part

@@ -1,12 +1,12 @@
-//! A filter that grows: Bloom filters one after the other, each for twice the items of the one
-//! before it at half its rate.
+//! A filter that grows: filters of one kind, one after the other, each for twice the items of the
+//! one before it at half its rate.
 ghost use Rattle.std.specs.Prelude.{◌≡◌, ℕ, ◌+◌, ◌<◌, ◌≤◌, max, length, true, false, IfOk, OnErr};
 ghost use Rattle.std.specs.Result.{result_err};
 ghost use Rattle.std.specs.Int.{w128, to_be_bytes};
 ghost use Rattle.bloom_parts.specs.Keys.{HasKey, key_low, key_high};
-ghost use Rattle.bloom_plain.specs.Filter.{contains};
 ghost use Rattle.bloom_growing.specs.Growing.{plan_of, IsKeyed, any_contains, has, newest_room};
 ghost use Rattle.bloom_growing.specs.GrowingInserts.{IsBegun, Begins, Adds, Takes, RefusesNumber, RefusesInsert};
+ghost use Rattle.bloom_growing.specs.Kinds.{contains_in};
 
 mod error;
 pub(crate) mod filters;
@@ -14,17 +14,20 @@ mod items;
 mod looks;
 mod rates;
 
+use crate::growable::GrowableFilter;
+use bloom_blocked::BlockedBloomFilter;
 use bloom_parts::hasher::DefaultHasher;
 use bloom_parts::math::Rate;
 use bloom_plain::BloomFilter;
 pub use error::GrowingError;
-use filters::{any_contains, half, insert_once, make};
+use filters::{any_contains, half, make};
 use std::alloc::Global;
 use std::marker::Model;
 use std::mem;
 
-/// A Bloom filter for a number of items that isn't known. Once its newest filter took as many new
-/// items as it was made for, the next one begins, for twice the items at half the rate.
+/// A filter for a number of items that isn't known, which consists of filters of one kind. Once its
+/// newest filter took as many new items as it was made for, the next one begins, for twice the
+/// items at half the rate.
 ///
 /// The rates that its filters are sized for, however many come, sum to less than the one that it
 /// was made with. The rate that comes of it can lie above that one: each filter takes only items
@@ -32,19 +35,26 @@ use std::mem;
 ///
 /// Contracts see what was asked for, the filters, and how many new items the newest one took.
 #[derive(Debug, Drop)]
-pub struct GrowingFilter {
+pub struct GrowingFilterOf<F: GrowableFilter> {
     rate: Rate,
     items: usize,
     hasher: DefaultHasher,
-    older: Vec<BloomFilter>,
-    newest: BloomFilter,
+    older: Vec<F>,
+    newest: F,
     taken: usize,
     // The rate and the room of the newest filter.
     newest_rate: Rate,
     room: usize,
 }
 
-impl Model for GrowingFilter {
+/// A filter that grows by Bloom filters.
+pub type GrowingFilter = GrowingFilterOf<BloomFilter>;
+
+/// A filter that grows by blocked filters.
+pub type GrowingBlockedFilter = GrowingFilterOf<BlockedBloomFilter>;
+
+impl<F: GrowableFilter> Model for GrowingFilterOf<F> {
+    ghost use Rattle.std.specs.Prelude.{map};
     ghost use Rattle.bloom_parts.specs.declared.hasher.CloneBuildHasher.{CloneBuildHasher};
     ghost use Rattle.bloom_parts.specs.declared.hasher.sip.RandomDefaultHasher.{RandomDefaultHasher};
     ghost use Rattle.bloom_growing.specs.Growing.{Growing, plan_of, IsKept};
@@ -53,20 +63,20 @@ impl Model for GrowingFilter {
 
     ghost view = { λ g. record {
       plan = plan_of g.rate g.items g.hasher;
-      older = g.older.items;
-      newest = g.newest;
+      older = map F.seen g.older.items;
+      newest = F.seen g.newest;
       taken = g.taken;
     } };
 
-    ghost invariant = { λ g. IsKept (record {
+    ghost invariant = { λ g. IsKept F.kind (record {
       plan = plan_of g.rate g.items g.hasher;
-      older = g.older.items;
-      newest = g.newest;
+      older = map F.seen g.older.items;
+      newest = F.seen g.newest;
       taken = g.taken;
     }) g.newest_rate g.room };
 }
 
-impl GrowingFilter {
+impl<F: GrowableFilter> GrowingFilterOf<F> {
     /// A filter for this many items at first, where 0 counts as 1, under the zero key. However many
     /// come, the rates that its filters are sized for sum to less than this one.
     ///
@@ -78,11 +88,12 @@ impl GrowingFilter {
     /// # Errors
     /// Those of `insert_hash`.
     pub fn new(alloc: Global, rate: Rate, items: usize) -> Result<Self, GrowingError>
-        ensures begun { IfOk result (λ g. IsBegun (plan_of rate (max 1 items) g.plan.hasher) g) }
+        ensures begun { IfOk result
+            (λ g. IsBegun F.kind (plan_of rate (max 1 items) g.plan.hasher) g) }
         ensures key { IfOk result (λ g. HasKey g.plan.hasher 0 0) }
-        ensures refused { RefusesNumber rate (max 1 items) 0 (result_err result) }
+        ensures refused { RefusesNumber F.kind rate (max 1 items) 0 (result_err result) }
     {
-        GrowingFilter::with_hasher(alloc, rate, items, DefaultHasher::default())
+        GrowingFilterOf::with_hasher(alloc, rate, items, DefaultHasher::default())
     }
 
     /// A filter as `new` makes it, under the key of a seed, which is its sixteen big-endian bytes.
@@ -95,13 +106,14 @@ impl GrowingFilter {
         items: usize,
         seed: &u128,
     ) -> Result<Self, GrowingError>
-        ensures begun { IfOk result (λ g. IsBegun (plan_of rate (max 1 items) g.plan.hasher) g) }
+        ensures begun { IfOk result
+            (λ g. IsBegun F.kind (plan_of rate (max 1 items) g.plan.hasher) g) }
         ensures key { let bytes = to_be_bytes w128 seed.now in
             IfOk result (λ g. HasKey g.plan.hasher (key_low bytes) (key_high bytes)) }
-        ensures refused { RefusesNumber rate (max 1 items) 0 (result_err result) }
+        ensures refused { RefusesNumber F.kind rate (max 1 items) 0 (result_err result) }
     {
         let hasher = DefaultHasher::seeded(&seed.to_be_bytes());
-        GrowingFilter::with_hasher(alloc, rate, items, hasher)
+        GrowingFilterOf::with_hasher(alloc, rate, items, hasher)
     }
 
     // A filter whose first filter is for this many items, under a key.
@@ -112,13 +124,13 @@ impl GrowingFilter {
         hasher: DefaultHasher,
     ) -> Result<Self, GrowingError>
         requires { IsKeyed hasher }
-        ensures begun { IfOk result (λ g. IsBegun (plan_of rate (max 1 items) hasher) g) }
-        ensures refused { RefusesNumber rate (max 1 items) 0 (result_err result) }
+        ensures begun { IfOk result (λ g. IsBegun F.kind (plan_of rate (max 1 items) hasher) g) }
+        ensures refused { RefusesNumber F.kind rate (max 1 items) 0 (result_err result) }
     {
         let newest_rate = half(rate)?;
         let room = items.max(1);
         let newest = make(alloc, newest_rate, room, &hasher)?;
-        Ok(GrowingFilter {
+        Ok(GrowingFilterOf {
             rate,
             items: room,
             hasher,
@@ -133,11 +145,12 @@ impl GrowingFilter {
     // Begins the next filter, and calls the newest one older.
     fn begin(&mut self, alloc: Global) -> Result<(), GrowingError>
         requires full { newest_room self.old ≤ self.old.taken }
-        ensures begins { IfOk result (λ _. Begins self.old self.new) }
-        ensures new { IfOk result (λ _. (hash : ℕ) → contains self.new.newest hash ≡ false) }
+        ensures begins { IfOk result (λ _. Begins F.kind self.old self.new) }
+        ensures new { IfOk result
+            (λ _. (hash : ℕ) → contains_in F.kind self.new.newest hash ≡ false) }
         ensures room { IfOk result (λ _. self.new.taken < newest_room self.new) }
         ensures unchanged { OnErr result (self.new ≡ self.old) }
-        ensures refused { RefusesNumber self.old.plan.rate self.old.plan.room
+        ensures refused { RefusesNumber F.kind self.old.plan.rate self.old.plan.room
             (length self.old.older + 1) (result_err result) }
     {
         let rate = half(self.newest_rate)?;
@@ -158,13 +171,13 @@ impl GrowingFilter {
     // whether that one contained it. If not, it counts as new.
     #[inline(always)]
     fn add(&mut self, hash: u64) -> bool
-        requires new { any_contains self.old.older hash ≡ false }
+        requires new { any_contains F.kind self.old.older hash ≡ false }
         requires room { self.old.taken < newest_room self.old }
-        ensures reply { result ≡ contains self.old.newest hash }
+        ensures reply { result ≡ contains_in F.kind self.old.newest hash }
         ensures held { result ≡ true → self.new ≡ self.old }
-        ensures adds { result ≡ false → Adds self.old hash self.new }
+        ensures adds { result ≡ false → Adds F.kind self.old hash self.new }
     {
-        if insert_once(&mut self.newest, hash) {
+        if self.newest.insert_once(hash) {
             return true;
         }
         self.taken += 1;
@@ -177,12 +190,12 @@ impl GrowingFilter {
     /// Only where the next filter has to begin, and then nothing changes: `RateOverflow` where its
     /// rate would have a lower part of 2^64 or more, `TooManyItems` where it would be for 2^64
     /// items or more, and else `Filter` with what the builders refuse: `SizeOverflow` for 2^64 bits
-    /// or more, `TooManyWords` for more than 2^58 - 1 words, and `Memory`.
+    /// or more, `TooManyWords` for 2^58 words or more, and `Memory`.
     #[inline]
     pub fn insert_hash(&mut self, alloc: Global, hash: u64) -> Result<bool, GrowingError>
-        ensures takes { IfOk result (λ reply. Takes self.old hash self.new reply) }
+        ensures takes { IfOk result (λ reply. Takes F.kind self.old hash self.new reply) }
         ensures unchanged { OnErr result (self.new ≡ self.old) }
-        ensures refused { RefusesInsert self.old hash (result_err result) }
+        ensures refused { RefusesInsert F.kind self.old hash (result_err result) }
     {
         if any_contains(&self.older, hash) {
             return Ok(true);
@@ -195,11 +208,11 @@ impl GrowingFilter {
 
     // Inserts a hash that no older filter contains, where the newest is full.
     fn insert_past(&mut self, alloc: Global, hash: u64) -> Result<bool, GrowingError>
-        requires new { any_contains self.old.older hash ≡ false }
+        requires new { any_contains F.kind self.old.older hash ≡ false }
         requires full { newest_room self.old ≤ self.old.taken }
-        ensures takes { IfOk result (λ reply. Takes self.old hash self.new reply) }
+        ensures takes { IfOk result (λ reply. Takes F.kind self.old hash self.new reply) }
         ensures unchanged { OnErr result (self.new ≡ self.old) }
-        ensures refused { RefusesInsert self.old hash (result_err result) }
+        ensures refused { RefusesInsert F.kind self.old hash (result_err result) }
     {
         if self.newest.contains_hash(hash) {
             return Ok(true);
@@ -212,7 +225,7 @@ impl GrowingFilter {
     /// the hash was never inserted.
     #[inline]
     pub fn contains_hash(&self, hash: u64) -> bool
-        ensures { result ≡ has self.now hash }
+        ensures { result ≡ has F.kind self.now hash }
     {
         self.newest.contains_hash(hash) || any_contains(&self.older, hash)
     }

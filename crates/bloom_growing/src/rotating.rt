@@ -1,11 +1,9 @@
-//! A filter that rotates: two Bloom filters of one size, of which one takes what is new, and the
+//! A filter that rotates: two filters of one kind and size, of which one takes what is new, and the
 //! other still has what came before.
 ghost use Rattle.std.specs.Prelude.{◌≡◌, ℕ, max, IfOk};
 ghost use Rattle.std.specs.Result.{result_err};
 ghost use Rattle.std.specs.Int.{w128, to_be_bytes};
-ghost use Rattle.bloom_parts.specs.Content.{AreWords};
 ghost use Rattle.bloom_parts.specs.Keys.{HasKey, key_low, key_high};
-ghost use Rattle.bloom_plain.specs.Filter.{Clears};
 ghost use Rattle.bloom_growing.specs.Growing.{plan_of, IsKeyed};
 ghost use Rattle.bloom_growing.specs.GrowingInserts.{RefusesNumber};
 ghost use Rattle.bloom_growing.specs.Rotating.{either_contains, IsUnused, Receives};
@@ -14,8 +12,10 @@ mod items;
 mod looks;
 mod rates;
 
+use crate::growable::GrowableFilter;
 use crate::growing::GrowingError;
-use crate::growing::filters::{half, insert_once, make};
+use crate::growing::filters::{half, make};
+use bloom_blocked::BlockedBloomFilter;
 use bloom_parts::hasher::DefaultHasher;
 use bloom_parts::laws::content_of_words;
 use bloom_parts::math::Rate;
@@ -24,24 +24,30 @@ use std::alloc::Global;
 use std::marker::Model;
 use std::mem;
 
-/// A Bloom filter that forgets, for a stream without end. A hash is contained as long as fewer
-/// different ones came behind it than this filter is for.
+/// A filter that forgets, for a stream without end. A hash is contained as long as fewer different
+/// ones came behind it than this filter is for.
 ///
-/// It has two filters for as many items, each at half the rate. The newer one takes what it doesn't
-/// contain, also what the older one contains. Once it took as many as it is for, it becomes the
-/// older one, and the older one is cleared. After the start no memory is taken.
+/// It has two filters of one kind for as many items, each at half the rate. The newer one takes
+/// what it doesn't contain, also what the older one contains. Once it took as many as it is for, it
+/// becomes the older one, and the older one is cleared. After the start no memory is taken.
 #[derive(Debug, Drop)]
-pub struct RotatingFilter {
+pub struct RotatingFilterOf<F: GrowableFilter> {
     rate: Rate,
     room: usize,
     hasher: DefaultHasher,
-    older: BloomFilter,
-    newer: BloomFilter,
+    older: F,
+    newer: F,
     taken: usize,
     turns: u64,
 }
 
-impl Model for RotatingFilter {
+/// A filter that rotates two Bloom filters.
+pub type RotatingFilter = RotatingFilterOf<BloomFilter>;
+
+/// A filter that rotates two blocked filters.
+pub type RotatingBlockedFilter = RotatingFilterOf<BlockedBloomFilter>;
+
+impl<F: GrowableFilter> Model for RotatingFilterOf<F> {
     ghost use Rattle.bloom_parts.specs.declared.hasher.CloneBuildHasher.{CloneBuildHasher};
     ghost use Rattle.bloom_parts.specs.declared.hasher.sip.RandomDefaultHasher.{RandomDefaultHasher};
     ghost use Rattle.bloom_growing.specs.Growing.{plan_of};
@@ -51,31 +57,22 @@ impl Model for RotatingFilter {
 
     ghost view = { λ r. record {
       plan = plan_of r.rate r.room r.hasher;
-      older = r.older;
-      newer = r.newer;
+      older = F.seen r.older;
+      newer = F.seen r.newer;
       taken = r.taken;
       turns = r.turns;
     } };
 
-    ghost invariant = { λ r. IsRotating (record {
+    ghost invariant = { λ r. IsRotating F.kind (record {
       plan = plan_of r.rate r.room r.hasher;
-      older = r.older;
-      newer = r.newer;
+      older = F.seen r.older;
+      newer = F.seen r.newer;
       taken = r.taken;
       turns = r.turns;
     }) };
 }
 
-// Clears a filter, whose words have 64 bits.
-fn empty(filter: &mut BloomFilter)
-    ensures clears { Clears filter.old filter.new }
-    ensures range { AreWords filter.new.words }
-{
-    filter.clear();
-    let _after = filter.as_slice(); // its words are of 64 bits
-}
-
-impl RotatingFilter {
+impl<F: GrowableFilter> RotatingFilterOf<F> {
     /// A filter for this many of the last items, where 0 counts as 1, under the zero key. Its two
     /// filters are for as many, at half the rate.
     ///
@@ -87,13 +84,14 @@ impl RotatingFilter {
     /// # Errors
     /// `RateOverflow` where half of the rate would have a lower part of 2^64 or more, and else
     /// `Filter` with what the builders refuse: `SizeOverflow` for 2^64 bits or more, `TooManyWords`
-    /// for more than 2^58 - 1 words, and `Memory`.
+    /// for 2^58 words or more, and `Memory`.
     pub fn new(alloc: Global, rate: Rate, items: usize) -> Result<Self, GrowingError>
-        ensures unused { IfOk result (λ r. IsUnused (plan_of rate (max 1 items) r.plan.hasher) r) }
+        ensures unused { IfOk result
+            (λ r. IsUnused F.kind (plan_of rate (max 1 items) r.plan.hasher) r) }
         ensures key { IfOk result (λ r. HasKey r.plan.hasher 0 0) }
-        ensures refused { RefusesNumber rate (max 1 items) 0 (result_err result) }
+        ensures refused { RefusesNumber F.kind rate (max 1 items) 0 (result_err result) }
     {
-        RotatingFilter::with_hasher(alloc, rate, items, DefaultHasher::default())
+        RotatingFilterOf::with_hasher(alloc, rate, items, DefaultHasher::default())
     }
 
     /// A filter as `new` makes it, under the key of a seed, which is its sixteen big-endian bytes.
@@ -106,13 +104,14 @@ impl RotatingFilter {
         items: usize,
         seed: &u128,
     ) -> Result<Self, GrowingError>
-        ensures unused { IfOk result (λ r. IsUnused (plan_of rate (max 1 items) r.plan.hasher) r) }
+        ensures unused { IfOk result
+            (λ r. IsUnused F.kind (plan_of rate (max 1 items) r.plan.hasher) r) }
         ensures key { let bytes = to_be_bytes w128 seed.now in
             IfOk result (λ r. HasKey r.plan.hasher (key_low bytes) (key_high bytes)) }
-        ensures refused { RefusesNumber rate (max 1 items) 0 (result_err result) }
+        ensures refused { RefusesNumber F.kind rate (max 1 items) 0 (result_err result) }
     {
         let hasher = DefaultHasher::seeded(&seed.to_be_bytes());
-        RotatingFilter::with_hasher(alloc, rate, items, hasher)
+        RotatingFilterOf::with_hasher(alloc, rate, items, hasher)
     }
 
     // A filter whose two filters are for this many items, under a key.
@@ -123,14 +122,14 @@ impl RotatingFilter {
         hasher: DefaultHasher,
     ) -> Result<Self, GrowingError>
         requires { IsKeyed hasher }
-        ensures unused { IfOk result (λ r. IsUnused (plan_of rate (max 1 items) hasher) r) }
-        ensures refused { RefusesNumber rate (max 1 items) 0 (result_err result) }
+        ensures unused { IfOk result (λ r. IsUnused F.kind (plan_of rate (max 1 items) hasher) r) }
+        ensures refused { RefusesNumber F.kind rate (max 1 items) 0 (result_err result) }
     {
         let half_rate = half(rate)?;
         let room = items.max(1);
         let older = make(alloc, half_rate, room, &hasher)?;
         let newer = make(alloc, half_rate, room, &hasher)?;
-        Ok(RotatingFilter {
+        Ok(RotatingFilterOf {
             rate,
             room,
             hasher,
@@ -145,10 +144,10 @@ impl RotatingFilter {
     /// the newer one did, nothing changes.
     #[inline]
     pub fn insert_hash(&mut self, hash: u64) -> bool
-        ensures { Receives self.old hash self.new result }
+        ensures { Receives F.kind self.old hash self.new result }
     {
         content_of_words();
-        if insert_once(&mut self.newer, hash) {
+        if self.newer.insert_once(hash) {
             return true;
         }
         let held = self.older.contains_hash(hash);
@@ -157,7 +156,7 @@ impl RotatingFilter {
             return held;
         }
         mem::swap(&mut self.older, &mut self.newer);
-        empty(&mut self.newer);
+        self.newer.clear();
         self.taken = 0;
         self.turns = self.turns.saturating_add(1);
         held
@@ -167,7 +166,7 @@ impl RotatingFilter {
     /// the hash didn't come, or that as many different ones came behind it as this filter is for.
     #[inline]
     pub fn contains_hash(&self, hash: u64) -> bool
-        ensures { result ≡ either_contains self.now hash }
+        ensures { result ≡ either_contains F.kind self.now hash }
     {
         self.newer.contains_hash(hash) || self.older.contains_hash(hash)
     }

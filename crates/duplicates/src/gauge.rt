@@ -1,7 +1,7 @@
 //! How full a filter is, as a terminal is told.
 
 use bloom_blocked::BlockedBloomFilter;
-use bloom_growing::{GrowingFilter, RotatingFilter};
+use bloom_growing::{GrowableFilter, GrowingFilterOf, RotatingFilterOf};
 use bloom_plain::BloomFilter;
 
 /// A filter that tells how full it is. Half of the bits are set where a filter is as full as it was
@@ -20,29 +20,46 @@ fn share_of(ones: usize, bits: usize) -> u64 {
     share.min(1000) as u64
 }
 
+/// A filter that counts its bits that are set.
+pub trait Share {
+    /// The share of its bits that are set, in tenths of a percent.
+    fn share(&self) -> u64;
+}
+
+impl Share for BloomFilter {
+    fn share(&self) -> u64 {
+        share_of(self.count_ones(), self.num_bits())
+    }
+}
+
+impl Share for BlockedBloomFilter {
+    fn share(&self) -> u64 {
+        share_of(self.count_ones(), self.num_bits())
+    }
+}
+
 // Tells the share of a filter's bits that are set.
-fn tell_share(rt: &HostRuntime, ones: usize, bits: usize) {
-    let share = share_of(ones, bits);
+fn tell_share<F: Share>(rt: &HostRuntime, filter: &F) {
+    let share = filter.share();
     let (whole, part) = (share / 10, share % 10);
     let _ = eprintln!(rt; "{whole}.{part} % of the filter's bits are set");
 }
 
 impl Gauge for BloomFilter {
     fn tell_full(&self, rt: &HostRuntime) {
-        tell_share(rt, self.count_ones(), self.num_bits());
+        tell_share(rt, self);
     }
 }
 
 impl Gauge for BlockedBloomFilter {
     fn tell_full(&self, rt: &HostRuntime) {
-        tell_share(rt, self.count_ones(), self.num_bits());
+        tell_share(rt, self);
     }
 }
 
-impl Gauge for GrowingFilter {
+impl<F: GrowableFilter + Share> Gauge for GrowingFilterOf<F> {
     fn tell_full(&self, rt: &HostRuntime) {
-        let newest = self.newest();
-        let share = share_of(newest.count_ones(), newest.num_bits());
+        let share = self.newest().share();
         let (whole, part) = (share / 10, share % 10);
         let number = self.older().len().saturating_add(1);
         let (taken, room) = (self.taken(), self.room());
@@ -52,10 +69,9 @@ impl Gauge for GrowingFilter {
     }
 }
 
-impl Gauge for RotatingFilter {
+impl<F: GrowableFilter + Share> Gauge for RotatingFilterOf<F> {
     fn tell_full(&self, rt: &HostRuntime) {
-        let older = self.older();
-        let share = share_of(older.count_ones(), older.num_bits());
+        let share = self.older().share();
         let (whole, part) = (share / 10, share % 10);
         let turns = self.turns();
         let _ = eprintln!(rt;

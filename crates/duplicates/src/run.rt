@@ -7,8 +7,8 @@ use crate::telling::{
     DONE, OVERFULL, Teller, tell_fault, tell_no_room, tell_output, tell_unwritten,
 };
 use bloom_blocked::BlockedBloomFilter;
-use bloom_growing::{GrowingError, GrowingFilter, RotatingFilter};
-use bloom_plain::{BloomFilter, FilterError};
+use bloom_growing::{GrowingBlockedFilter, GrowingError, GrowingFilter, RotatingFilter};
+use bloom_plain::{BloomFilter, FilterError, Rate};
 use duplicates_engine::{Fault, Options, Sieve, Total, Written, keep_new};
 use program_parts::{Output, Writer, close, first_output, open_output};
 use std::fs::File;
@@ -142,6 +142,12 @@ fn sift_by<V: Sieve + Gauge + Drop, W: Write + Drop>(
     }
 }
 
+// Whether the filter grows by blocked filters. Below this rate they take more than 1.3 times the
+// memory of plain ones before long, and none keeps a rate below 2^-22.
+fn grows_by_blocked(rate: Rate) -> bool {
+    rate.num() as u128 * 10_000 >= rate.den() as u128
+}
+
 // Sifts the inputs by the filter that is asked for, and gives the status.
 fn sift_by_filter<W: Write + Drop>(
     rt: &HostRuntime,
@@ -161,6 +167,9 @@ fn sift_by_filter<W: Write + Drop>(
         let builder = BloomFilter::with_false_pos(rate).seed(seed);
         let made = builder.expected_items(alloc, items);
         sift_by(rt, request, made.map_err(GrowingError::Filter), output)
+    } else if grows_by_blocked(rate) {
+        let made = GrowingBlockedFilter::seeded(alloc, rate, items, seed);
+        sift_by(rt, request, made, output)
     } else {
         let made = GrowingFilter::seeded(alloc, rate, items, seed);
         sift_by(rt, request, made, output)

@@ -6,6 +6,7 @@ use Rattle.std.proofs.lemmas.Slice.Eq.{bytes_eq-Decides}
 use Rattle.std.specs.Cmp.{unsigned_Decides}
 use Rattle.std.specs.Set.{distinct_count, unique_keys, is_member}
 use Rattle.std.specs.Str.{bytes_eq}
+use Rattle.bloom_growing.specs.Kinds.{Kind}
 use Rattle.bloom_growing.specs.Rotating.{Rotating, either_contains, Receives, ReceivesAll, RecentFoundLaw}
 use Rattle.duplicates_engine.specs.Sieves.{IsNew}
 
@@ -79,40 +80,41 @@ module _ (hash_of : List ℕ → ℕ) where
           )
 
   -- a reply that is false tells that a line is new
-  pub tells-new : {S : Type 0} (start r : Rotating S) (line : List ℕ) (reply : Bool)
-      → RecentFoundLaw S → reply ≡ either_contains r (hash_of line) → reply ≡ false
-      → (lines : List (List ℕ)) → ReceivesAll start (map hash_of lines) r
+  pub tells-new : {S : Type 0} (kind : Kind) (start r : Rotating S) (line : List ℕ) (reply : Bool)
+      → RecentFoundLaw S → reply ≡ either_contains kind r (hash_of line) → reply ≡ false
+      → (lines : List (List ℕ)) → ReceivesAll kind start (map hash_of lines) r
       → IsNew (Some r.plan.room) lines line
-  tells-new start r line reply law answers is lines came front behind other cut few same =
-      let found : either_contains r (hash_of other) ≡ true =
-      law start r (map hash_of front) (map hash_of behind) (hash_of other)
-      (subst (λ l. ReceivesAll start l r)
+  tells-new kind start r line reply law answers is lines came front behind other cut few same =
+      let found : either_contains kind r (hash_of other) ≡ true =
+      law kind start r (map hash_of front) (map hash_of behind) (hash_of other)
+      (subst (λ l. ReceivesAll kind start l r)
       (ap (map hash_of) cut ∙ map-append hash_of front (other ∷ behind)) came)
       (omega (arith, few, few-hashes behind)) in
       true≢false
-      (sym found ∙ ap (λ l. either_contains r (hash_of l)) same ∙ sym answers ∙ is)
+      (sym found ∙ ap (λ l. either_contains kind r (hash_of l)) same ∙ sym answers ∙ is)
 
 -- one more hash came
-receives-next : {S : Type 0} (start old new : Rotating S) (hashes : List ℕ) (hash : ℕ)
-    (reply : Bool) → ReceivesAll start hashes old → Receives old hash new reply
-    → ReceivesAll start (hashes ++ hash ∷ []) new
-receives-next start old new [] hash reply all did =
-    (new, reply, subst (λ r. Receives r hash new reply) all did, refl)
-receives-next start old new (h ∷ hashes) hash reply all did =
-    (all.0, all.1, all.2, receives-next all.0 old new hashes hash reply all.3 did)
+receives-next : {S : Type 0} (kind : Kind) (start old new : Rotating S) (hashes : List ℕ) (hash : ℕ)
+    (reply : Bool) → ReceivesAll kind start hashes old → Receives kind old hash new reply
+    → ReceivesAll kind start (hashes ++ hash ∷ []) new
+receives-next kind start old new [] hash reply all did =
+    (new, reply, subst (λ r. Receives kind r hash new reply) all did, refl)
+receives-next kind start old new (h ∷ hashes) hash reply all did =
+    (all.0, all.1, all.2, receives-next kind all.0 old new hashes hash reply all.3 did)
 
 -- one more line came
-pub recalls-more : {S : Type 0} (hash_of : S → List ℕ → ℕ) (old new : Rotating S)
+pub recalls-more : {S : Type 0} (kind : Kind) (hash_of : S → List ℕ → ℕ) (old new : Rotating S)
     (lines : List (List ℕ)) (line : List ℕ) (reply : Bool)
-    → Receives old (hash_of old.plan.hasher line) new reply
-    → (start : Rotating S) × ReceivesAll start (map (hash_of old.plan.hasher) lines) old
+    → Receives kind old (hash_of old.plan.hasher line) new reply
+    → (start : Rotating S) × ReceivesAll kind start (map (hash_of old.plan.hasher) lines) old
     → (start : Rotating S)
-    × ReceivesAll start (map (hash_of new.plan.hasher) (lines ++ line ∷ [])) new
-recalls-more hash_of old new lines line reply did came = (
+    × ReceivesAll kind start (map (hash_of new.plan.hasher) (lines ++ line ∷ [])) new
+recalls-more kind hash_of old new lines line reply did came = (
   came.0,
-  subst (λ p. ReceivesAll came.0 (map (hash_of p.hasher) (lines ++ line ∷ [])) new) (sym did.plan)
-      (subst (λ l. ReceivesAll came.0 l new)
+  subst (λ p. ReceivesAll kind came.0 (map (hash_of p.hasher) (lines ++ line ∷ [])) new)
+  (sym did.plan)
+      (subst (λ l. ReceivesAll kind came.0 l new)
       (sym (map-append (hash_of old.plan.hasher) lines (line ∷ [])))
-      (receives-next came.0 old new (map (hash_of old.plan.hasher) lines)
+      (receives-next kind came.0 old new (map (hash_of old.plan.hasher) lines)
       (hash_of old.plan.hasher line) reply came.1 did)),
 )

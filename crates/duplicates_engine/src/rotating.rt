@@ -4,19 +4,19 @@ ghost use Rattle.duplicates_engine.specs.Rotating.{rotating_recalls, rotating_re
 
 use crate::sieve::Sieve;
 use bloom_growing::laws::rotating_recent_stays_found;
-use bloom_growing::{GrowingError, RotatingFilter};
+use bloom_growing::{GrowableFilter, GrowingError, RotatingFilterOf};
 use bloom_plain::{DefaultHasher, RandomDefaultHasher, Text};
 use std::alloc::Global;
 use std::hash::{BuildHasher, Hasher};
 
 /// A line stands in a filter that rotates by the hash of its bytes.
-impl Sieve for RotatingFilter {
+impl<F: GrowableFilter> Sieve for RotatingFilterOf<F> {
     ghost span = { λ r. Some r.plan.room };
 
-    ghost recalls = { rotating_recalls ⟦<RandomDefaultHasher as Hasher>⟧
+    ghost recalls = { rotating_recalls F.kind ⟦<RandomDefaultHasher as Hasher>⟧
         ⟦<DefaultHasher as BuildHasher>⟧.build_hasher };
 
-    ghost sifts = { rotating_receives ⟦<RandomDefaultHasher as Hasher>⟧
+    ghost sifts = { rotating_receives F.kind ⟦<RandomDefaultHasher as Hasher>⟧
         ⟦<DefaultHasher as BuildHasher>⟧.build_hasher };
 
     // No line is refused.

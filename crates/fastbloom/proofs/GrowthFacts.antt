@@ -14,6 +14,7 @@ use Rattle.bloom_plain.specs.Filter.{Filter}
 use Rattle.bloom_growing.specs.Growing.{Growing, IsNumber, Plan, has, newest_room, plan_of, rate_start}
 use Rattle.bloom_growing.specs.GrowingInserts.{IsBegun}
 use Rattle.bloom_growing.specs.GrowingLaws.{GrowingFoundLaw, GrowingKeptLaw, RatesBelowLaw, TakesAll}
+use Rattle.bloom_growing.specs.Kinds.{Plain}
 
 -- the rate of four, or of this part of it
 abbrev rate_of : (den : ℕ) → 0 < den → Rate
@@ -57,7 +58,7 @@ halvings-none =
     record { enough = (4294967296, root, lit≤ tt); least = λ other is. omega arith }
 
 -- the first filter is for one item
-number-first : IsNumber (plan 1) 0 (filter 0 44)
+number-first : IsNumber Plain (plan 1) 0 (filter 0 44)
 number-first = record {
   rate = rate_of 2 (lit< tt);
   num = refl;
@@ -66,7 +67,7 @@ number-first = record {
 }
 
 -- and for no other number
-number-only : (made : Filter ℕ) → IsNumber (plan 1) 0 made → made ≡ filter 0 44
+number-only : (made : Filter ℕ) → IsNumber Plain (plan 1) 0 made → made ≡ filter 0 44
 number-only made is =
     let size = is.is_made.1 in
     let halvings =
@@ -78,44 +79,44 @@ number-only made is =
     ∙ ap (λ b. sized_filter (empty_start (rate_start four 7) b) 1)
     (size.2 ∙ ap (size_for (max 1 1)) same)
 
-begun : IsBegun (plan 1) (grown [] (filter 0 44) 0)
+begun : IsBegun Plain (plan 1) (grown [] (filter 0 44) 0)
 begun = record { plan = refl; older = refl; newest = number-first; taken = refl }
 
 -- it took nothing yet
-begun-taken : IsBegun (plan 1) (grown [] (filter 0 44) 1) → ⊥
+begun-taken : IsBegun Plain (plan 1) (grown [] (filter 0 44) 1) → ⊥
 begun-taken is = let wrong : 1 ≡ 0 = is.taken in omega (arith, wrong)
 
 -- it has no full filter
-begun-older : IsBegun (plan 1) (grown (with_one ∷ []) (filter 0 44) 0) → ⊥
+begun-older : IsBegun Plain (plan 1) (grown (with_one ∷ []) (filter 0 44) 0) → ⊥
 begun-older is = let wrong : 1 ≡ 0 = ap length is.older in omega (arith, wrong)
 
 -- its filter isn't for two items
-begun-twice : IsBegun (plan 1) (grown [] (filter 0 22) 0) → ⊥
+begun-twice : IsBegun Plain (plan 1) (grown [] (filter 0 22) 0) → ⊥
 begun-twice is =
     let wrong : 22 ≡ 44 = ap (λ f. f.hashes) (number-only (filter 0 22) is.newest) in
     omega (arith, wrong)
 
 -- nor is it another plan's
-begun-plan : IsBegun (plan 2) (grown [] (filter 0 44) 0) → ⊥
+begun-plan : IsBegun Plain (plan 2) (grown [] (filter 0 44) 0) → ⊥
 begun-plan is = let wrong : 1 ≡ 2 = ap (λ p. p.room) is.plan in omega (arith, wrong)
 
 -- ---- laws
 
 module _ (new : Growing ℕ) where
   -- a hash that is contained stays so, whatever comes
-  kept-used : GrowingKeptLaw ℕ → (hashes : List ℕ) → TakesAll (grown [] with_one 1) hashes new
-      → has new 1 ≡ true
+  kept-used : GrowingKeptLaw ℕ → (hashes : List ℕ) → TakesAll Plain (grown [] with_one 1) hashes new
+      → has Plain new 1 ≡ true
   unfolding content chain are_in
-  kept-used law hashes did = law (grown [] with_one 1) new hashes 1 did refl
+  kept-used law hashes did = law Plain (grown [] with_one 1) new hashes 1 did refl
 
   -- each of two hashes that came is contained
-  found-first : GrowingFoundLaw ℕ → TakesAll (grown [] with_none 0) (1 ∷ 5 ∷ []) new
-      → has new 1 ≡ true
-  found-first law did = law (grown [] with_none 0) new [] (5 ∷ []) 1 did
+  found-first : GrowingFoundLaw ℕ → TakesAll Plain (grown [] with_none 0) (1 ∷ 5 ∷ []) new
+      → has Plain new 1 ≡ true
+  found-first law did = law Plain (grown [] with_none 0) new [] (5 ∷ []) 1 did
 
-  found-second : GrowingFoundLaw ℕ → TakesAll (grown [] with_none 0) (1 ∷ 5 ∷ []) new
-      → has new 5 ≡ true
-  found-second law did = law (grown [] with_none 0) new (1 ∷ []) [] 5 did
+  found-second : GrowingFoundLaw ℕ → TakesAll Plain (grown [] with_none 0) (1 ∷ 5 ∷ []) new
+      → has Plain new 5 ≡ true
+  found-second law did = law Plain (grown [] with_none 0) new (1 ∷ []) [] 5 did
 
 -- the rates 4 / 2 and 4 / 4 sum to 24 / 8, which is below four
 rates-used : RatesBelowLaw → 24 < 32

@@ -26,7 +26,10 @@ pub use bloom_blocked::{
 };
 pub use bloom_files as file;
 pub use bloom_files::{FileError, FilterFile};
-pub use bloom_growing::{GrowingError, GrowingFilter, RotatingFilter};
+pub use bloom_growing::{
+    GrowableFilter, GrowingBlockedFilter, GrowingError, GrowingFilter, GrowingFilterOf,
+    RotatingBlockedFilter, RotatingFilter, RotatingFilterOf,
+};
 pub use bloom_parts::bit_vector::{AtomicWords, Words};
 pub use bloom_parts::error::FilterError;
 pub use bloom_parts::hasher::{CloneBuildHasher, DefaultHasher, RandomDefaultHasher};

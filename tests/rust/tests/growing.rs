@@ -1,6 +1,6 @@
 //! A growing filter holds back what the program `duplicates` does, whose filter is proved.
 
-use fastbloom_c::{GrowingFilter, Rate};
+use fastbloom_c::{GrowingBlockedFilter, GrowingFilter, Rate};
 use std::io::{self, Write};
 use std::path::Path;
 use std::process::Command;
@@ -17,7 +17,7 @@ fn drawn(seed: u64, index: u64) -> u64 {
 /// Compares what both hold back of lines that a seed draws, some of which come again.
 fn compare(program: &Path, seed: u64) {
     let items = [1, 7, 100][drawn(seed, 0) as usize % 3];
-    let rate = ["1/2", "1/10", "1/100"][drawn(seed, 1) as usize % 3];
+    let rate = ["1/2", "1/10", "1/100", "1/100000"][drawn(seed, 1) as usize % 4];
     let key = u128::from(drawn(seed, 2)) << 64 | u128::from(drawn(seed, 3));
     let lines: Vec<_> = (4..5004)
         .map(|index| format!("line{}", drawn(seed, index) % 3000))
@@ -38,9 +38,16 @@ fn compare(program: &Path, seed: u64) {
     let errors = String::from_utf8_lossy(&told.stderr);
     assert!(told.status.success() && errors.is_empty(), "{errors}");
     let parsed: Rate = rate.parse().expect("a rate");
-    let mut seen = GrowingFilter::seeded(parsed, items, &key).expect("a filter");
-    let is_held = |line: &&String| seen.insert(*line).expect("room");
-    let held: Vec<_> = lines.iter().filter(is_held).collect();
+    // Below 1/10000 the program grows by plain filters, and else by blocked ones.
+    let held: Vec<_> = if rate == "1/100000" {
+        let mut seen = GrowingFilter::seeded(parsed, items, &key).expect("a filter");
+        let is_held = |line: &&String| seen.insert(*line).expect("room");
+        lines.iter().filter(is_held).collect()
+    } else {
+        let mut seen = GrowingBlockedFilter::seeded(parsed, items, &key).expect("a filter");
+        let is_held = |line: &&String| seen.insert(*line).expect("room");
+        lines.iter().filter(is_held).collect()
+    };
     let told = String::from_utf8(told.stdout).expect("lines");
     assert_eq!(told.lines().collect::<Vec<_>>(), held, "{items} at {rate}");
 }

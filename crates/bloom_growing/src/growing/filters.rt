@@ -1,19 +1,18 @@
 //! The filters that a growing one consists of: how each is made, and what is asked of them.
-ghost use Rattle.std.specs.Prelude.{◌≡◌, ℕ, ◌*◌, ◌^◌, ◌<◌, ◌≤◌, true, IfOk, OnErr, IfErr};
+ghost use Rattle.std.specs.Prelude.{◌≡◌, ℕ, ◌*◌, ◌^◌, ◌<◌, ◌≤◌, map, max, IfOk, OnErr, IfErr};
 ghost use Rattle.std.specs.Result.{result_err};
 ghost use Rattle.bloom_parts.specs.Rates.{num_of, den_of};
-ghost use Rattle.bloom_plain.specs.Builders.{size_refusal, RefusesAs, IsSizeOf, IsMadeFor};
-ghost use Rattle.bloom_plain.specs.Filter.{Inserts};
+ghost use Rattle.bloom_plain.specs.Builders.{RefusesAs};
 ghost use Rattle.bloom_growing.specs.Growing as growing;
 ghost use Rattle.bloom_growing.specs.Growing.{IsKeyed, rate_start};
+ghost use Rattle.bloom_growing.specs.Kinds.{IsMadeIn, IsSizeIn, size_refusal_in};
 ghost use Rattle.bloom_growing.specs.declared.growing.error.GrowingError.TheVariants.{RateOverflow};
 
 use super::GrowingError;
+use crate::growable::GrowableFilter;
 use bloom_parts::error::FilterError;
 use bloom_parts::hasher::DefaultHasher;
-use bloom_parts::laws::content_of_words;
 use bloom_parts::math::Rate;
-use bloom_plain::BloomFilter;
 use std::alloc::Global;
 
 // Half of a rate, with the same upper part.
@@ -40,26 +39,25 @@ fn copy_of(hasher: &DefaultHasher) -> DefaultHasher
 }
 
 // The filter that the builders make for this many items at this rate, under the same key.
-pub(crate) fn make(
+pub(crate) fn make<F: GrowableFilter>(
     alloc: Global,
     rate: Rate,
     items: usize,
     hasher: &DefaultHasher,
-) -> Result<BloomFilter, FilterError>
+) -> Result<F, FilterError>
     requires { IsKeyed hasher.now }
-    ensures made { IfOk result (IsMadeFor (rate_start rate hasher.now) items) }
-    ensures refused { (bits : ℕ) × IsSizeOf (rate_start rate hasher.now) items bits
-        × RefusesAs (size_refusal bits) (result_err result) }
+    ensures made { IfOk result (λ filter.
+        IsMadeIn F.kind (rate_start rate hasher.now) items (F.seen filter)) }
+    ensures refused { (bits : ℕ) × IsSizeIn F.kind (max 1 items) (num_of rate) (den_of rate) bits
+        × RefusesAs (size_refusal_in F.kind bits) (result_err result) }
 {
-    BloomFilter::with_false_pos(rate)
-        .hasher(copy_of(hasher))
-        .expected_items(alloc, items)
+    F::make(alloc, rate, items, copy_of(hasher))
 }
 
 // Whether one of these filters contains a hash.
 #[inline(always)]
-pub(crate) fn any_contains(filters: &[BloomFilter], hash: u64) -> bool
-    ensures { result ≡ growing.any_contains filters.now hash }
+pub(crate) fn any_contains<F: GrowableFilter>(filters: &[F], hash: u64) -> bool
+    ensures { result ≡ growing.any_contains F.kind (map F.seen filters.now) hash }
 {
     'filters: for filter in filters {
         if filter.contains_hash(hash) {
@@ -67,17 +65,4 @@ pub(crate) fn any_contains(filters: &[BloomFilter], hash: u64) -> bool
         }
     }
     false
-}
-
-// Inserts a hash, and returns whether it was contained. If so, the filter stays as it was.
-#[inline(always)]
-pub(crate) fn insert_once(filter: &mut BloomFilter, hash: u64) -> bool
-    ensures inserts { Inserts filter.old hash filter.new result }
-    ensures held { result ≡ true → filter.new ≡ filter.old }
-{
-    let _before = filter.as_slice(); // its words are of 64 bits
-    let held = filter.insert_hash(hash);
-    let _after = filter.as_slice();
-    content_of_words();
-    held
 }

@@ -5,12 +5,13 @@ ghost use Rattle.bloom_growing.specs.Growing.{has};
 ghost use Rattle.bloom_growing.specs.GrowingInserts.{Takes, RefusesInsert};
 ghost use Rattle.bloom_plain.specs.SourceHash.{source_hash_of};
 
-use super::{GrowingError, GrowingFilter};
+use super::{GrowingError, GrowingFilterOf};
+use crate::growable::GrowableFilter;
 use bloom_parts::hasher::{DefaultHasher, RandomDefaultHasher};
 use std::alloc::Global;
 use std::hash::{BuildHasher, Hash, Hasher};
 
-impl GrowingFilter {
+impl<F: GrowableFilter> GrowingFilterOf<F> {
     /// The source hash of an item, which all the filters share.
     #[inline]
     pub fn source_hash<T: Hash>(&self, val: &T) -> u64
@@ -21,7 +22,9 @@ impl GrowingFilter {
             → result ≡ source_hash_of ⟦<DefaultHasher as BuildHasher>⟧
             ⟦<RandomDefaultHasher as Hasher>⟧ T.hash_input self.now.plan.hasher other }
     {
-        self.newest.source_hash(val)
+        let mut state = self.hasher.build_hasher();
+        val.hash(&mut state);
+        state.finish()
     }
 
     /// Inserts an item by its source hash unless one of the filters contains that, and returns
@@ -33,16 +36,16 @@ impl GrowingFilter {
     pub fn insert<T: Hash>(&mut self, alloc: Global, val: &T) -> Result<bool, GrowingError>
         ensures takes { let hash = source_hash_of ⟦<DefaultHasher as BuildHasher>⟧
             ⟦<RandomDefaultHasher as Hasher>⟧ T.hash_input self.old.plan.hasher in
-            IfOk result (λ reply. Takes self.old (hash val.now) self.new reply) }
+            IfOk result (λ reply. Takes F.kind self.old (hash val.now) self.new reply) }
         // An equal item would have been inserted alike.
         ensures alike { let hash = source_hash_of ⟦<DefaultHasher as BuildHasher>⟧
             ⟦<RandomDefaultHasher as Hasher>⟧ T.hash_input self.old.plan.hasher in
             (other : T) → IsTrue (T.eq val.now other)
-            → IfOk result (λ reply. Takes self.old (hash other) self.new reply) }
+            → IfOk result (λ reply. Takes F.kind self.old (hash other) self.new reply) }
         ensures unchanged { OnErr result (self.new ≡ self.old) }
         ensures refused { let hash = source_hash_of ⟦<DefaultHasher as BuildHasher>⟧
             ⟦<RandomDefaultHasher as Hasher>⟧ T.hash_input self.old.plan.hasher in
-            RefusesInsert self.old (hash val.now) (result_err result) }
+            RefusesInsert F.kind self.old (hash val.now) (result_err result) }
     {
         let hash = self.source_hash(val);
         self.insert_hash(alloc, hash)
@@ -54,11 +57,11 @@ impl GrowingFilter {
     pub fn contains<T: Hash>(&self, val: &T) -> bool
         ensures found { let hash = source_hash_of ⟦<DefaultHasher as BuildHasher>⟧
             ⟦<RandomDefaultHasher as Hasher>⟧ T.hash_input self.now.plan.hasher in
-            result ≡ has self.now (hash val.now) }
+            result ≡ has F.kind self.now (hash val.now) }
         // An equal item is found alike.
         ensures alike { let hash = source_hash_of ⟦<DefaultHasher as BuildHasher>⟧
             ⟦<RandomDefaultHasher as Hasher>⟧ T.hash_input self.now.plan.hasher in
-            (other : T) → IsTrue (T.eq val.now other) → result ≡ has self.now (hash other) }
+            (other : T) → IsTrue (T.eq val.now other) → result ≡ has F.kind self.now (hash other) }
     {
         self.contains_hash(self.source_hash(val))
     }

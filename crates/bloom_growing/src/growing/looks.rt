@@ -1,23 +1,23 @@
 //! What is seen of a filter that grows: its filters, and how far it is.
-ghost use Rattle.std.specs.Prelude.{◌≡◌, ◌≤◌};
+ghost use Rattle.std.specs.Prelude.{◌≡◌, ◌≤◌, map};
 ghost use Rattle.bloom_growing.specs.Growing.{IsGrown, newest_room};
 
-use super::GrowingFilter;
-use bloom_plain::BloomFilter;
+use super::GrowingFilterOf;
+use crate::growable::GrowableFilter;
 
-impl GrowingFilter {
+impl<F: GrowableFilter> GrowingFilterOf<F> {
     /// The full filters, the oldest first. None of them changes any more.
-    pub fn older(&self) -> &[BloomFilter]
-        ensures value { result.now ≡ self.now.older }
-        ensures grown { IsGrown self.now }
+    pub fn older(&self) -> &[F]
+        ensures value { map F.seen result.now ≡ self.now.older }
+        ensures grown { IsGrown F.kind self.now }
     {
         self.older.as_slice()
     }
 
     /// The newest filter, which takes what is new.
-    pub fn newest(&self) -> &BloomFilter
-        ensures value { result.now ≡ self.now.newest }
-        ensures grown { IsGrown self.now }
+    pub fn newest(&self) -> &F
+        ensures value { F.seen result.now ≡ self.now.newest }
+        ensures grown { IsGrown F.kind self.now }
     {
         &self.newest
     }

@@ -1,9 +1,9 @@
-//! The rate of false positives of a filter that grows.
+//! The rate of false positives of a filter that grows by Bloom filters.
 ghost use Rattle.std.specs.Prelude.{◌^◌, ◌<◌, length, map};
 ghost use Rattle.bloom_growing.specs.Growing.{room_at};
 ghost use Rattle.bloom_growing.specs.GrowingRates.{BoundsAny, part_now, parts_now, parts_full, parts_grown};
 
-use super::GrowingFilter;
+use super::GrowingFilterOf;
 use bloom_parts::math::{Bracket, false_pos_of_either};
 use bloom_plain::BloomFilter;
 
@@ -31,7 +31,7 @@ fn rate_full(filters: &[BloomFilter], first_room: usize) -> Bracket
     rate
 }
 
-impl GrowingFilter {
+impl GrowingFilterOf<BloomFilter> {
     /// Two bounds of the mean rate of false positives of all the filters together, each after as
     /// many draws as it took new items. Only items that set a bit are new, so more bits are set
     /// than by as many draws, and the rate can lie above both bounds.

@@ -3,11 +3,12 @@ ghost use Rattle.std.specs.Prelude.{◌≡◌, IsTrue};
 ghost use Rattle.bloom_growing.specs.Rotating.{either_contains, Receives};
 ghost use Rattle.bloom_plain.specs.SourceHash.{source_hash_of};
 
-use super::RotatingFilter;
+use super::RotatingFilterOf;
+use crate::growable::GrowableFilter;
 use bloom_parts::hasher::{DefaultHasher, RandomDefaultHasher};
 use std::hash::{BuildHasher, Hash, Hasher};
 
-impl RotatingFilter {
+impl<F: GrowableFilter> RotatingFilterOf<F> {
     /// The source hash of an item, which both filters share.
     #[inline]
     pub fn source_hash<T: Hash>(&self, val: &T) -> u64
@@ -18,7 +19,9 @@ impl RotatingFilter {
             → result ≡ source_hash_of ⟦<DefaultHasher as BuildHasher>⟧
             ⟦<RandomDefaultHasher as Hasher>⟧ T.hash_input self.now.plan.hasher other }
     {
-        self.newer.source_hash(val)
+        let mut state = self.hasher.build_hasher();
+        val.hash(&mut state);
+        state.finish()
     }
 
     /// Inserts an item by its source hash, and returns whether one of both filters contained that.
@@ -26,12 +29,12 @@ impl RotatingFilter {
     pub fn insert<T: Hash>(&mut self, val: &T) -> bool
         ensures receives { let hash = source_hash_of ⟦<DefaultHasher as BuildHasher>⟧
             ⟦<RandomDefaultHasher as Hasher>⟧ T.hash_input self.old.plan.hasher in
-            Receives self.old (hash val.now) self.new result }
+            Receives F.kind self.old (hash val.now) self.new result }
         // An equal item would have been inserted alike.
         ensures alike { let hash = source_hash_of ⟦<DefaultHasher as BuildHasher>⟧
             ⟦<RandomDefaultHasher as Hasher>⟧ T.hash_input self.old.plan.hasher in
             (other : T) → IsTrue (T.eq val.now other)
-            → Receives self.old (hash other) self.new result }
+            → Receives F.kind self.old (hash other) self.new result }
     {
         let hash = self.source_hash(val);
         self.insert_hash(hash)
@@ -42,12 +45,12 @@ impl RotatingFilter {
     pub fn contains<T: Hash>(&self, val: &T) -> bool
         ensures found { let hash = source_hash_of ⟦<DefaultHasher as BuildHasher>⟧
             ⟦<RandomDefaultHasher as Hasher>⟧ T.hash_input self.now.plan.hasher in
-            result ≡ either_contains self.now (hash val.now) }
+            result ≡ either_contains F.kind self.now (hash val.now) }
         // An equal item is found alike.
         ensures alike { let hash = source_hash_of ⟦<DefaultHasher as BuildHasher>⟧
             ⟦<RandomDefaultHasher as Hasher>⟧ T.hash_input self.now.plan.hasher in
             (other : T) → IsTrue (T.eq val.now other)
-            → result ≡ either_contains self.now (hash other) }
+            → result ≡ either_contains F.kind self.now (hash other) }
     {
         self.contains_hash(self.source_hash(val))
     }

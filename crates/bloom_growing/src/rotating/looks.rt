@@ -2,22 +2,22 @@
 ghost use Rattle.std.specs.Prelude.{◌≡◌, ◌<◌};
 ghost use Rattle.bloom_growing.specs.Rotating.{IsRotating};
 
-use super::RotatingFilter;
-use bloom_plain::BloomFilter;
+use super::RotatingFilterOf;
+use crate::growable::GrowableFilter;
 
-impl RotatingFilter {
+impl<F: GrowableFilter> RotatingFilterOf<F> {
     /// The older filter, which is full, or empty before the first turn.
-    pub fn older(&self) -> &BloomFilter
-        ensures value { result.now ≡ self.now.older }
-        ensures rotating { IsRotating self.now }
+    pub fn older(&self) -> &F
+        ensures value { F.seen result.now ≡ self.now.older }
+        ensures rotating { IsRotating F.kind self.now }
     {
         &self.older
     }
 
     /// The newer filter, which takes what is new.
-    pub fn newer(&self) -> &BloomFilter
-        ensures value { result.now ≡ self.now.newer }
-        ensures rotating { IsRotating self.now }
+    pub fn newer(&self) -> &F
+        ensures value { F.seen result.now ≡ self.now.newer }
+        ensures rotating { IsRotating F.kind self.now }
     {
         &self.newer
     }

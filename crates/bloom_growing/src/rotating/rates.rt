@@ -1,13 +1,14 @@
-//! The rate of false positives of a filter that rotates.
+//! The rate of false positives of a filter that rotates two Bloom filters.
 ghost use Rattle.std.specs.Prelude.{◌≡◌};
 ghost use Rattle.bloom_growing.specs.GrowingRates.{BoundsAny};
 ghost use Rattle.bloom_growing.specs.Rotating as rotating;
 ghost use Rattle.bloom_growing.specs.Rotating.{both_now, both_taken};
 
-use super::RotatingFilter;
+use super::RotatingFilterOf;
 use bloom_parts::math::{Bracket, false_pos_of_either};
+use bloom_plain::BloomFilter;
 
-impl RotatingFilter {
+impl RotatingFilterOf<BloomFilter> {
     // The number of new items that the older filter took before it became the older one.
     fn older_taken(&self) -> usize
         ensures { result ≡ rotating.older_taken self.now }
