@@ -29,6 +29,7 @@ impl Counted {
 }
 
 /// Counts a line, and tells what there is to tell of it.
+#[inline(always)]
 pub fn count_line<P: Progress>(
     counted: &mut Counted,
     is_longer: bool,

@@ -3,6 +3,7 @@ ghost use Rattle.std.specs.Prelude.{IfOk, IfErr};
 ghost use Rattle.duplicates_engine.specs.Choices.{WritesChoice, WritesChoiceUntil};
 ghost use Rattle.duplicates_engine.specs.Kept.{EndsEarly, KeepsNew};
 
+use crate::ahead::Ahead;
 use crate::counted::{Counted, count_line};
 use crate::fault::Fault;
 use crate::inputs::Inputs;
@@ -44,8 +45,18 @@ fn keep_lines<V: Sieve, I: Inputs, W: Write, P: Progress, const END: u8>(
         return Ok(counted.total());
     };
     let mut opened = Opened::<END>::new(alloc, options)?;
+    let mut ahead = Ahead::new(sieve);
     'steps: for _step in 0..u64::MAX {
-        match next_step(alloc, options, &mut opened, &mut input, inputs, output)? {
+        let waits = ahead.look::<V, END>(sieve, opened.lines.waiting());
+        match next_step(
+            alloc,
+            options,
+            waits,
+            &mut opened,
+            &mut input,
+            inputs,
+            output,
+        )? {
             Step::End => return Ok(counted.total()),
             Step::Opened => continue,
             Step::TooLong => return Err(Fault::TooLong(opened.number.saturating_add(1))),

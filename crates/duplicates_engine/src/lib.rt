@@ -4,12 +4,14 @@
 //! - `sieve`: what tells of a line whether it may have come before: a filter that is plain
 //!   (`plain`), blocked (`blocked`), growing (`growing`) or rotating (`rotating`).
 //! - `options`, `output`: what a run is to do, and how it writes lines.
+//! - `ahead`: looking ahead at lines that wait, for the memory's sake.
 //! - `inputs`, `opened`: inputs, one after the other, and the one that is open.
 //! - `tally`, `counted`, `progress`: counts of lines, and who is told of them and warned.
 //! - `fault`: why a run ends early.
 //! - `laws`: the laws of sieves.
 #![tactic(auto)]
 
+mod ahead;
 mod blocked;
 mod counted;
 mod fault;

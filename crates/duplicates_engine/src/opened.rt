@@ -73,15 +73,17 @@ pub fn flush<W: Write>(output: &mut W) -> Result<(), Fault>
     }
 }
 
-// Flushes what was written, where the next line may have to wait for a read.
+// Flushes what was written, where the next line may have to wait for a read. It has none to wait
+// for where it is known to wait whole.
 fn flush_before_a_read<W: Write, const END: u8>(
+    waits: bool,
     lines: &LineReaderBy<END>,
     output: &mut W,
 ) -> Result<(), Fault>
     ensures kept { Keeps (W.contents output.old) (W.contents output.new) }
     ensures fault { IfErr result IsOfWriter }
 {
-    if lines.has_next() {
+    if waits || lines.has_next() {
         Ok(())
     } else {
         flush(output)
@@ -134,10 +136,13 @@ fn begin_next<I: Inputs, W: Write, const END: u8>(
 }
 
 /// Reads the next line, or opens the next input behind one that has ended. Before a read or an open
-/// that may wait, what was written is flushed.
+/// that may wait, what was written is flushed. `waits` says that the next line is known to wait
+/// whole.
+#[inline(always)]
 pub fn next_step<I: Inputs, W: Write, const END: u8>(
     alloc: Global,
     options: Options,
+    waits: bool,
     opened: &mut Opened<END>,
     input: &mut I::Input,
     inputs: &mut I,
@@ -157,7 +162,7 @@ pub fn next_step<I: Inputs, W: Write, const END: u8>(
         (FailsBehind I.fails (left_of opened.old.lines (I.Input.remaining input.old))
         inputs.old inputs.new)) }
 {
-    flush_before_a_read(&opened.lines, output)?;
+    flush_before_a_read(waits, &opened.lines, output)?;
     match opened.lines.next_line(input) {
         Ok(Next::End) => {}
         Ok(Next::Line) => {

@@ -19,6 +19,7 @@ fn writes(written: Written, is_longer: bool, is_held: bool) -> bool
 }
 
 /// Writes a line and its end, if it is to be written.
+#[inline(always)]
 pub fn put_chosen<W: Write, const END: u8>(
     output: &mut W,
     options: Options,

@@ -22,6 +22,16 @@ impl<F: GrowableFilter> Sieve for RotatingFilterOf<F> {
     // No line is refused.
     ghost refuses = { λ _ _ _. ⊥ };
 
+    fn hash_of(&self, line: &[u8]) -> u64 {
+        self.source_hash(&Text(line))
+    }
+
+    fn looks_ahead(&self) -> bool {
+        false
+    }
+
+    fn look_up(&self, _hashes: &[u64], _found: &mut [u64; 1]) {}
+
     fn sift(&mut self, _alloc: Global, line: &[u8]) -> Result<bool, GrowingError> {
         rotating_recent_stays_found::<DefaultHasher>();
         Ok(self.insert(&Text(line)))

@@ -1,6 +1,7 @@
 //! What both filters return from a call that takes no memory.
 use crate::making::Pair;
 use crate::scripted::Item;
+use fastbloom::Rate;
 
 /// Whether the insert of a hash returns this.
 pub(crate) fn insert_hash(pair: &mut Pair, hash: u64, said: bool) -> bool {
@@ -83,12 +84,21 @@ pub(crate) fn has_ones(pair: &Pair, ones: usize) -> bool {
     (pair.plain.count_ones() == ones) & (pair.shared.count_ones() == ones)
 }
 
+// Whether both hold as many items at a rate of one in a hundred.
+fn holds_as_many(pair: &Pair) -> bool {
+    match Rate::new(1, 100) {
+        Ok(rate) => pair.plain.capacity_for(rate) == pair.shared.capacity_for(rate),
+        Err(_refusal) => false,
+    }
+}
+
 /// Whether both tell the same number of items, and the same rates.
 pub(crate) fn tell_the_same(pair: &Pair) -> bool {
     let Pair { plain, shared } = pair;
     (plain.estimated_items() == shared.estimated_items())
         & (plain.false_pos_now() == shared.false_pos_now())
         & (plain.false_pos_bounds(9) == shared.false_pos_bounds(9))
+        & holds_as_many(pair)
         & (plain.expected_false_pos(9) == shared.expected_false_pos(9))
 }
 

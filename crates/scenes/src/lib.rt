@@ -12,6 +12,7 @@
 //!   files.
 //! - `threads`: threads that share a filter.
 //! - `room`: requests for memory refused, one or all, by `dev/starve`.
+//! - `long`: lines of which each byte comes and goes alone.
 //! - `engines`: the programs' engines over readers, writers and sieves that fail or are odd.
 //! - `texts`: the texts of all errors.
 //! - `used`: the examples of the pages.
@@ -50,6 +51,8 @@ mod follow;
 mod growing;
 #[cfg(test)]
 mod hashing;
+#[cfg(test)]
+mod long;
 #[cfg(test)]
 mod making;
 #[cfg(test)]

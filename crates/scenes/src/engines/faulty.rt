@@ -9,7 +9,7 @@ use std::io::{ErrorKind, Read, Write};
 pub(crate) struct Reading {
     /// The most bytes of a read.
     pub(crate) piece: usize,
-    /// Whether three interrupted reads come before each.
+    /// Whether five interrupted reads come before each.
     pub(crate) interrupts: bool,
     /// Why it fails where it would tell its end, if it does.
     pub(crate) fails: Option<ErrorKind>,
@@ -108,7 +108,7 @@ impl<'a> Source<'a> {
 impl<'a> Read for Source<'a> {
     fn read(&mut self, buf: &mut [u8]) -> io::Result<usize> {
         self.seen.note_read();
-        self.interrupted = self.interrupted.wrapping_add(1) % 4;
+        self.interrupted = self.interrupted.wrapping_add(1) % 6;
         if self.reading.interrupts && self.interrupted > 0 {
             return Err(ErrorKind::Interrupted.into());
         }
@@ -130,7 +130,7 @@ pub(crate) struct Writing {
     pub(crate) piece: usize,
     /// The most bytes of all.
     pub(crate) room: usize,
-    /// Whether three interrupted writes come before each.
+    /// Whether five interrupted writes come before each.
     pub(crate) interrupts: bool,
     /// Whether it takes nothing where no room is left, instead of an error.
     pub(crate) takes_none: bool,
@@ -206,7 +206,7 @@ impl<'a> Sink<'a> {
 
 impl<'a> Write for Sink<'a> {
     fn write(&mut self, buf: &[u8]) -> io::Result<usize> {
-        self.interrupted = self.interrupted.wrapping_add(1) % 4;
+        self.interrupted = self.interrupted.wrapping_add(1) % 6;
         if self.writing.interrupts && self.interrupted > 0 {
             return Err(ErrorKind::Interrupted.into());
         }

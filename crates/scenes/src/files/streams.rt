@@ -77,7 +77,7 @@ fn filter_of(alloc: Global, words: u64) -> Result<BloomFilter, FilterError> {
 }
 
 // Numbers of words, and of the bytes of a call. A block has 512 words. By one byte a call a file of
-// 1,250 words takes 10,064 reads.
+// 8,800 words takes more than 2^16 reads.
 const STREAMS: &'static [(u64, usize)] = &[
     (1, 1),
     (1, 63),
@@ -88,7 +88,7 @@ const STREAMS: &'static [(u64, usize)] = &[
     (512, 1000),
     (513, 1000),
     (1025, 1000),
-    (1250, 1),
+    (8800, 1),
     (4097, 1000),
     (100_000, 1000),
 ];

@@ -171,6 +171,18 @@ const UNDISTURBED: &'static [Course] = &[
 ];
 
 const TAKEN: &'static [Course] = &[
+    course! {
+        "the last of 65 parties makes its call",
+        [5], 1, 65, [0];
+        [64 begins Clear] [64 goes] =>
+        [64 begins Clear] [64 makes Zero(0) finding 0 ending]
+    },
+    course! {
+        "the last of 1,000 parties makes its call",
+        [5], 1, 1000, [0];
+        [999 begins Take] [1000 begins Clear] [999 goes] =>
+        [999 begins Take] [999 makes Take(0) finding 5 ending]
+    },
     // With one hash of 64 bits the position is the top six binary digits: hash 2^58 has position 1.
     course! {
         "five parties make all five calls",
