@@ -1,5 +1,5 @@
 //! The filters of which one that grows, or rotates, consists: of one kind, plain or blocked.
-ghost use Rattle.std.specs.Prelude.{◌≡◌, ℕ, max, true, IfOk};
+ghost use Rattle.std.specs.Prelude.{◌≡◌, ◌≤◌, ℕ, length, max, true, IfOk};
 ghost use Rattle.std.specs.Result.{result_err};
 ghost use Rattle.bloom_parts.specs.Content.{AreWords};
 ghost use Rattle.bloom_parts.specs.Rates.{num_of, den_of};
@@ -51,6 +51,14 @@ pub trait GrowableFilter: Drop {
     /// Whether a hash is contained.
     fn contains_hash(&self, hash: u64) -> bool
         ensures { result ≡ contains_in kind (seen self.now) hash };
+
+    /// Whether it is so large that hashes which come are better looked up together before.
+    fn looks_ahead(&self) -> bool;
+
+    /// Looks up these hashes, 64 at most, so that the memory brings their words side by side.
+    /// Nothing depends on what is found.
+    fn look_up(&self, hashes: &[u64], found: &mut [u64; 1])
+        requires { length hashes.now ≤ 64 };
 
     /// Clears every bit.
     fn clear(&mut self)

@@ -112,7 +112,7 @@ pub recalls-more : {S : Type 0} (kind : Kind) (hash_of : S → List ℕ → ℕ)
 recalls-more kind hash_of old new lines line reply did came = (
   came.0,
   subst (λ p. ReceivesAll kind came.0 (map (hash_of p.hasher) (lines ++ line ∷ [])) new)
-  (sym did.plan)
+      (sym did.plan)
       (subst (λ l. ReceivesAll kind came.0 l new)
       (sym (map-append (hash_of old.plan.hasher) lines (line ∷ [])))
       (receives-next kind came.0 old new (map (hash_of old.plan.hasher) lines)

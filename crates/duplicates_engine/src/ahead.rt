@@ -15,17 +15,15 @@ pub struct Ahead {
     found: [u64; 1],
     // How many of the lines that wait were looked at.
     left: usize,
-    is_on: bool,
 }
 
 impl Ahead {
     /// No line was looked at.
-    pub fn new<V: Sieve>(sieve: &V) -> Self {
+    pub fn new() -> Self {
         Ahead {
             hashes: [0; LINES_TOGETHER],
             found: [0],
             left: 0,
-            is_on: sieve.looks_ahead(),
         }
     }
 
@@ -33,7 +31,7 @@ impl Ahead {
     /// counts one that is taken. Returns whether that one was looked at: then it waits whole.
     #[inline(always)]
     pub fn look<V: Sieve, const END: u8>(&mut self, sieve: &V, waiting: &[u8]) -> bool {
-        if self.left == 0 && self.is_on {
+        if self.left == 0 && sieve.looks_ahead() {
             self.look_at::<V, END>(sieve, waiting);
         }
         let waits = self.left > 0;

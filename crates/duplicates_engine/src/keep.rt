@@ -45,7 +45,7 @@ fn keep_lines<V: Sieve, I: Inputs, W: Write, P: Progress, const END: u8>(
         return Ok(counted.total());
     };
     let mut opened = Opened::<END>::new(alloc, options)?;
-    let mut ahead = Ahead::new(sieve);
+    let mut ahead = Ahead::new();
     'steps: for _step in 0..u64::MAX {
         let waits = ahead.look::<V, END>(sieve, opened.lines.waiting());
         match next_step(

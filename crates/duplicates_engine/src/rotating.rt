@@ -27,10 +27,13 @@ impl<F: GrowableFilter> Sieve for RotatingFilterOf<F> {
     }
 
     fn looks_ahead(&self) -> bool {
-        false
+        self.newer().looks_ahead()
     }
 
-    fn look_up(&self, _hashes: &[u64], _found: &mut [u64; 1]) {}
+    fn look_up(&self, hashes: &[u64], found: &mut [u64; 1]) {
+        self.older().look_up(hashes, found);
+        self.newer().look_up(hashes, found);
+    }
 
     fn sift(&mut self, _alloc: Global, line: &[u8]) -> Result<bool, GrowingError> {
         rotating_recent_stays_found::<DefaultHasher>();

@@ -8,6 +8,9 @@ use bloom_parts::laws::content_of_words;
 use bloom_parts::math::Rate;
 use std::alloc::Global;
 
+// From this many words on, which are one mebibyte, hashes are looked up ahead.
+const WORDS_TO_LOOK_AHEAD: usize = 1 << 17;
+
 impl GrowableFilter for BlockedBloomFilter {
     ghost use Rattle.bloom_growing.specs.Kinds.{Blocked};
 
@@ -38,6 +41,14 @@ impl GrowableFilter for BlockedBloomFilter {
     #[inline(always)]
     fn contains_hash(&self, hash: u64) -> bool {
         self.contains_hash(hash)
+    }
+
+    fn looks_ahead(&self) -> bool {
+        self.as_slice().len() >= WORDS_TO_LOOK_AHEAD
+    }
+
+    fn look_up(&self, hashes: &[u64], found: &mut [u64; 1]) {
+        self.contains_hashes(hashes, found);
     }
 
     fn clear(&mut self) {

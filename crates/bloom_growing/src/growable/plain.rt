@@ -38,6 +38,15 @@ impl GrowableFilter for BloomFilter {
         self.contains_hash(hash)
     }
 
+    // So many positions of an item in several filters wait for one another anyway.
+    fn looks_ahead(&self) -> bool {
+        false
+    }
+
+    fn look_up(&self, hashes: &[u64], found: &mut [u64; 1]) {
+        self.contains_hashes(hashes, found);
+    }
+
     fn clear(&mut self) {
         self.clear();
         let _after = self.as_slice(); // its words are of 64 bits
