@@ -38,4 +38,5 @@ mod UnionLemmas
 mod UnitingFacts
 mod UnitingLemmas
 mod UnloadedLemmas
+mod WaitingKeyLemmas
 mod WritingFacts

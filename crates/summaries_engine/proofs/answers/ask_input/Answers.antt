@@ -4,7 +4,8 @@ use Rattle.lines.specs.Writing.{AppendsPart}
 use Rattle.std.specs.Io.KnownBytes.{Appends}
 use Rattle.summaries_engine.specs.Stops.{IsUnwritten}
 use Rattle.summaries_engine.proofs.AskingLemmas.{answering-end, answering-flushed, answering-next, answering-none, on-ok}
-use Rattle.summaries_engine.proofs.BatchLemmas.{answering-batch, answering-kept, asking-batch-cut, reply-hashed}
+use Rattle.summaries_engine.proofs.BatchLemmas.{reply-hashed}
+use Rattle.summaries_engine.proofs.WaitingKeyLemmas.{answering-batch, answering-kept, asking-batch-cut}
 use Rattle.summaries_engine.proofs.StopLemmas.{asking-cut, asking-stops, asking-unflushed, why-long, why-read}
 use Rattle.summaries_engine.proofs.answers.ask_input.Goals as goal
 

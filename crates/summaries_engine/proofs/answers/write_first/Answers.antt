@@ -17,8 +17,8 @@ returns-in_err-write_if-clause-part g c =
     rw is
     (answers-cut done c.in-Some.ensures
     (c.is_set.ensures
-    ∙ found-is c.args.filter.now c.contains_hashes.new.found c.contains_hashes.ensures.found c.requires.hashes done.cuts c.in-Some.ensures
-    c.keys.count done.counted c.keys-test.true)
+    ∙ found-is c.args.filter.now c.contains_hashes.new.found c.contains_hashes.ensures.found
+    c.requires.hashes done.cuts c.in-Some.ensures c.keys.count done.counted c.keys-test.true)
     c.in_err-write_if.ensures.part)
 
 -- one key more
@@ -28,7 +28,8 @@ keys-preserved g c =
       few = omega (arith, c.keys-test.true);
       done = answers-more done c.in-Some.ensures
           (c.is_set.ensures
-          ∙ found-is c.args.filter.now c.contains_hashes.new.found c.contains_hashes.ensures.found c.requires.hashes done.cuts
-          c.in-Some.ensures c.keys.count done.counted c.keys-test.true)
+          ∙ found-is c.args.filter.now c.contains_hashes.new.found c.contains_hashes.ensures.found
+          c.requires.hashes done.cuts c.in-Some.ensures c.keys.count done.counted
+          c.keys-test.true)
           c.in_ok-write_if.ensures.wrote;
     }

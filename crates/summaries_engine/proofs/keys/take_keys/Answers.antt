@@ -1,5 +1,5 @@
 use Rattle.std.proofs.Common.{inl}
-use Rattle.summaries_engine.proofs.BatchLemmas.{taking-batch}
+use Rattle.summaries_engine.proofs.WaitingKeyLemmas.{taking-batch}
 use Rattle.summaries_engine.proofs.KeyLemmas.{taking-end, taking-next, taking-none}
 use Rattle.summaries_engine.proofs.StopLemmas.{hashing-stops, why-long, why-read}
 use Rattle.summaries_engine.proofs.keys.take_keys.Goals as goal

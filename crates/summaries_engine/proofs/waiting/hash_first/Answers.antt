@@ -21,6 +21,6 @@ keys-preserved g c =
       room = same ∙ so_far.room;
       within = omega (arith, so_far.within, cut-fewer c.in-Some.ensures);
       hashed = λ k0 k1 has.
-          hashes-more c.keys.hashes c.keys.count (so_far.hashed k0 k1 has) c.in-Some.ensures c.keys-test.true
-          c.hash_of.result (c.hash_of.ensures k0 k1 has);
+          hashes-more c.keys.hashes c.keys.count (so_far.hashed k0 k1 has) c.in-Some.ensures
+          c.keys-test.true c.hash_of.result (c.hash_of.ensures k0 k1 has);
     }
