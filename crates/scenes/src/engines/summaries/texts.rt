@@ -25,23 +25,32 @@ fn filter_of(alloc: Global, times: usize) -> Result<BloomFilter, FilterError> {
     Ok(BloomFilter::from_vec(words)?.hashes(2))
 }
 
-// Whether a filter is read from a text, with each of its words.
+// Whether a filter is this one, with each of its words.
+fn is_same(back: &AnyFilter, filter: &BloomFilter) -> bool {
+    match back {
+        AnyFilter::Classic(back) => *back == *filter,
+        AnyFilter::Blocked(_back) => false,
+    }
+}
+
+// Whether a filter is read from a text.
 fn is_read(alloc: Global, text: &[u8], filter: &BloomFilter) -> bool {
     let mut rest = text;
     match load(alloc, "text", 64, &mut rest) {
-        Ok((AnyFilter::Classic(back), form)) => (form == Form::Json) & (back == *filter),
-        Ok((AnyFilter::Blocked(_), _form)) => false,
+        Ok((back, form)) => (form == Form::Json) & is_same(&back, filter),
         Err(_stop) => false,
     }
 }
 
 // Whether the filter is read from its text.
 fn comes_back(alloc: Global, times: usize) -> bool {
-    match (text_of(alloc, times), filter_of(alloc, times)) {
-        (Ok(text), Ok(filter)) => is_read(alloc, text.as_slice(), &filter),
-        (Ok(_text), Err(_refusal)) => false,
-        (Err(_refused), _filter) => false,
-    }
+    let Ok(text) = text_of(alloc, times) else {
+        return false;
+    };
+    let Ok(filter) = filter_of(alloc, times) else {
+        return false;
+    };
+    is_read(alloc, text.as_slice(), &filter)
 }
 
 // Of eight words, of 65,536 and of 2^20, which are more than a million.
