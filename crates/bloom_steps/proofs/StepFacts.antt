@@ -1,13 +1,7 @@
 pub mod Asked
-pub mod Beginnings
 pub mod ByWords
-pub mod Counts
-pub mod Deciding
 pub mod Machines
 pub mod Members
-pub mod Near
 pub mod Pairs
 pub mod Scripts
-pub mod Standings
 pub mod Stores
-pub mod Words

@@ -1,9 +1,8 @@
 -- Which calls of the worked courses are finished, and which not.
-use Rattle.std.proofs.Common.{◌≡◌, ◌≢◌, ◌<◌, ◌∷◌, [], List, ℕ, Some, slice_get, true, false, refl, arith, Bool, not, ◌&&◌, ◌||◌, ◌==◌, ap, sym, ◌∙◌, ltb}
+use Rattle.std.proofs.Common.{◌≡◌, ◌≢◌, ◌<◌, List, ℕ, Some, slice_get, true, refl, Bool, not, ◌&&◌, ◌||◌, ◌==◌, ap, sym, ◌∙◌, ltb}
 use Rattle.bloom_steps.specs.declared.steps.vocabulary.Step.{Step}
-use Rattle.bloom_steps.specs.declared.steps.vocabulary.Step.TheVariants.{Load, Or, Zero}
 use Rattle.bloom_steps.specs.declared.steps.vocabulary.Call.{Call}
-use Rattle.bloom_steps.specs.declared.steps.vocabulary.Call.TheVariants.{Insert, Contains, Clear}
+use Rattle.bloom_steps.specs.declared.steps.vocabulary.Call.TheVariants.{Clear}
 use Rattle.bloom_steps.specs.declared.steps.vocabulary.End.{End}
 use Rattle.bloom_steps.specs.declared.steps.vocabulary.End.TheVariants.{Running, Done, Answer}
 use Rattle.bloom_steps.specs.declared.steps.vocabulary.Record.{Record}
@@ -12,7 +11,6 @@ use Rattle.bloom_steps.specs.Courses.{Course}
 use Rattle.bloom_steps.specs.Moments.{IsStepAt, IsFinished}
 use Rattle.bloom_steps.proofs.StepFacts.Members.{all_pass, each-passes}
 use Rattle.std.proofs.lemmas.Bool.{both_ways, and_from, eq-eqb, lt-ltb}
-use Rattle.bloom_steps.proofs.CourseFacts.Courses.{twins, disturbed, insert_in_clear, last_load_alone}
 
 -- whether a record leaves a party's call going on: it is no beginning and no end of the party's
 abbrev leaves : ℕ → Record → Bool
@@ -71,96 +69,3 @@ finished run party call began last e begins order step found here over all =
           let r = Did party s.step s.found e in
           runs_on party s.step s.found e (between party began last m r a b (on m r s.here));
     }
-
--- a look-up of two loads is finished at its second
-pub finished-contains : IsFinished last_load_alone 0 (Contains 1) 0 2 (Answer true)
-finished-contains =
-    finished last_load_alone 0 (Contains 1) 0 2 (Answer true) refl (omega arith)
-    (Load 0) 1048576 refl (λ e. cc) refl
-
--- a look-up of two loads isn't finished at its first
-unfinished-contains : IsFinished last_load_alone 0 (Contains 1) 0 1 Running → ⊥
-unfinished-contains is = is.over refl
-
--- a look-up isn't finished with another answer than it gave
-another-answer : IsFinished last_load_alone 0 (Contains 1) 0 2 (Answer false) → ⊥
-another-answer is = let ends = is.ends.here in cc
-
--- a look-up of one hash isn't finished as that of another
-another-call : IsFinished last_load_alone 0 (Contains 2) 0 2 (Answer true) → ⊥
-another-call is = let begins = is.begins in cc
-
--- a look-up is finished, while others begin and end calls
-pub finished-disturbed : IsFinished disturbed 0 (Contains 1) 0 7 (Answer true)
-finished-disturbed =
-    finished disturbed 0 (Contains 1) 0 7 (Answer true) refl (omega arith) (Load 0) 1048576 refl
-    (λ e. cc) refl
-
--- a call isn't finished by a step of another party
-another-party : IsFinished disturbed 0 (Contains 1) 0 6 Done → ⊥
-another-party is = let ends = is.ends.here in cc
-
--- the first of the twins is finished at the last record
-pub finished-first : IsFinished twins 0 (Insert 1) 0 5 (Answer false)
-finished-first =
-    finished twins 0 (Insert 1) 0 5 (Answer false) refl (omega arith)
-    (Or 0 1048576) 1048577 refl (λ e. cc) refl
-
--- the second of the twins is finished in the first's span
-pub finished-second : IsFinished twins 1 (Insert 1) 1 4 (Answer false)
-finished-second =
-    finished twins 1 (Insert 1) 1 4 (Answer false) refl (omega arith) (Or 0 1048576) 1 refl
-    (λ e. cc) refl
-
--- an insert is finished, and its party goes on with a look-up
-pub finished-insert : IsFinished insert_in_clear 1 (Insert 1) 2 5 (Answer false)
-finished-insert =
-    finished insert_in_clear 1 (Insert 1) 2 5 (Answer false) refl (omega arith)
-    (Or 1 1) 0 refl (λ e. cc) refl
-
--- an insert isn't finished where the next call of its party is
-finished-by_next : IsFinished insert_in_clear 1 (Insert 1) 2 10 (Answer false) → ⊥
-finished-by_next is =
-    is.no_other 7 (Contains 1) (omega arith) (omega arith) refl
-
--- a course in which a party leaves a call for another
-abbrev left_for_another : Course
-left_for_another = record {
-  start = 0 ∷ [];
-  records = Began 0 Clear ∷ Began 0 (Insert 0) ∷ Did 0 (Or 0 1) 0 (Answer false) ∷ [];
-  words = 1 ∷ [];
-}
-
--- a call that its party left for another isn't finished by the end of the other
-left-unfinished : IsFinished left_for_another 0 Clear 0 2 (Answer false) → ⊥
-left-unfinished is = is.no_other 1 (Insert 0) (omega arith) (omega arith) refl
-
--- a course in which a call ends twice
-abbrev ended_twice : Course
-ended_twice = record {
-  start = 0 ∷ [];
-  records = Began 0 Clear ∷ Did 0 (Zero 0) 0 Done ∷ Did 0 (Zero 0) 0 Done ∷ [];
-  words = 0 ∷ [];
-}
-
--- a call that ends twice is finished at its first end
-ended-first : IsFinished ended_twice 0 Clear 0 1 Done
-ended-first =
-    finished ended_twice 0 Clear 0 1 Done refl (omega arith) (Zero 0) 0 refl (λ e. cc) refl
-
--- a call that ends twice isn't finished at its second end
-ended-second : IsFinished ended_twice 0 Clear 0 2 Done → ⊥
-ended-second is =
-    let runs = is.still 1 Done (omega arith) (omega arith) (step_at (Zero 0) 0 refl) in cc
-
--- a course in which the end of a call comes before its beginning
-abbrev ended_before : Course
-ended_before = record {
-  start = 0 ∷ [];
-  records = Did 0 (Zero 0) 0 Done ∷ Began 0 Clear ∷ [];
-  words = 0 ∷ [];
-}
-
--- a call isn't finished by an end before its beginning
-ended-early : IsFinished ended_before 0 Clear 1 0 Done → ⊥
-ended-early is = omega (arith, is.order)

@@ -2,16 +2,17 @@
 use Rattle.std.proofs.Common.{◌≡◌, ◌∷◌, [], List, ℕ, zero, suc, true, false, refl, arith, sym, subst, lit<, ◌<◌, ◌^◌, ◌∙◌}
 use Rattle.std.proofs.lemmas.List.Elements.{All-cons, All-nil}
 use Rattle.bloom_parts.specs.Chain.{chain}
-use Rattle.bloom_parts.specs.Content.{AreWords, bit_is_on}
+use Rattle.bloom_parts.specs.Content.{AreWords, bit_is_on, content}
 use Rattle.bloom_parts.specs.Places.{place}
 use Rattle.bloom_steps.specs.declared.steps.vocabulary.Step.TheVariants.{Load, Or, Other}
 use Rattle.bloom_steps.specs.declared.steps.vocabulary.Call.TheVariants.{Insert, Contains, Union}
+use Rattle.bloom_steps.specs.declared.steps.vocabulary.Record.TheVariants.{Began, Did}
 use Rattle.bloom_steps.specs.declared.steps.vocabulary.End.TheVariants.{Running, Done, Answer}
 use Rattle.bloom_steps.specs.Scripts.{Any, Taken, IsScript}
 use Rattle.bloom_steps.specs.Courses.{CallAfterCall, IsLawful, no_call, begun_call, whole_call, records_of}
 use Rattle.bloom_steps.proofs.StepFacts.Members.{each-member, took}
 use Rattle.bloom_steps.proofs.StepFacts.Pairs.{one-pair}
-use Rattle.bloom_steps.proofs.StepFacts.Scripts.{insert, insert-script}
+use Rattle.bloom_steps.proofs.StepFacts.Scripts.{insert, is_script}
 use Rattle.bloom_steps.proofs.CourseFacts.Carrying.{carried}
 use Rattle.bloom_steps.proofs.CourseFacts.Courses.{twins, in_turn, insert_then_contains}
 use Rattle.bloom_steps.proofs.CourseFacts.Parties.{none-past}
@@ -165,3 +166,16 @@ lawful-in_turn =
     carried 1 in_turn
     (omega arith, refl, lit< tt, (omega arith, refl, lit< tt, (omega arith, refl, lit< tt, tt)))
     refl refl (one-word 5 (lit< tt)) calls-in_turn
+
+-- an insert and a look-up are lawful, and not where the look-up loads the word as it was before
+lawful : IsLawful 1 insert_then_contains
+    × (IsLawful 1 (record insert_then_contains {
+      records =
+          Began 0 (Insert 0) ∷ Did 0 (Or 0 1) 4 (Answer false) ∷ Began 1 (Contains 0)
+          ∷ Did 1 (Load 0) 4 (Answer true) ∷ Began 0 Union ∷ Did 0 (Other 0) 9 Running ∷ [];
+    }) → ⊥)
+unfolding content
+lawful = (
+  lawful-insert_then_contains,
+  (λ is. let bit = (is.finds 3 1 (Load 0) 4 (Answer true) refl).bits 0 refl in cc),
+)

@@ -5,17 +5,7 @@ use Rattle.bloom_steps.specs.declared.steps.vocabulary.Record.{Record}
 use Rattle.bloom_steps.specs.Courses.{runs, records_of, party_of, last_leaves_running}
 use Rattle.bloom_steps.proofs.StepFacts.Members.{all_pass}
 use Rattle.bloom_steps.specs.Moments.{EveryCallEnded, OneAtATime}
-use Rattle.bloom_steps.proofs.CourseFacts.Courses.{twins, in_turn, in_turn_answering, insert_in_clear}
-
--- the party of a clear runs a call up to the clear's last step
-runs-clear : runs 0 (take 6 insert_in_clear.records) ≡ true
-unfolding records_of
-runs-clear = refl
-
--- after the clear's last step its party runs no call
-over-clear : runs 0 (take 7 insert_in_clear.records) ≡ false
-unfolding records_of
-over-clear = refl
+use Rattle.bloom_steps.proofs.CourseFacts.Courses.{in_turn_answering}
 
 -- a party past all of some records' parties has no record among the first of them
 pub none-past : (bound party : ℕ) (rs : List Record) (m : ℕ)
@@ -48,11 +38,6 @@ ended-in_turn answer (suc zero) = refl
 ended-in_turn answer (suc (suc party)) =
     idle-past 2 (suc (suc party)) (in_turn_answering answer).records 5 refl (omega arith)
 
--- a record earlier the insert has not ended
-unended-in_turn : EveryCallEnded (take 4 in_turn.records) → ⊥
-unfolding records_of
-unended-in_turn ended = both_ways (runs 1 (take 4 in_turn.records)) (ended 1) refl
-
 -- the party that runs a call is the first up to the union's end, and then the second
 runner : (answer : Bool) (m party : ℕ)
     → runs party (take m (in_turn_answering answer).records) ≡ true
@@ -80,8 +65,3 @@ runner answer (suc (suc (suc (suc (suc (suc m)))))) (suc zero) is = absurd (both
 -- the union and the insert are made one at a time
 pub one-in_turn : (answer : Bool) → OneAtATime (in_turn_answering answer).records
 one-in_turn answer m p q a b = runner answer m p a ∙ sym (runner answer m q b)
-
--- the twins are not made one at a time
-both-twins : OneAtATime twins.records → ⊥
-unfolding records_of
-both-twins one = let same : 0 ≡ 1 = one 2 0 1 refl refl in omega (arith, same)

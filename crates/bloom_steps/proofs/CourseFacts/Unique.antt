@@ -1,17 +1,15 @@
 -- What the law on one course says of a schedule.
-use Rattle.std.proofs.Common.{◌≡◌, ◌<◌, ◌^◌, ◌∷◌, [], List, ℕ, zero, suc, refl, arith, lit<, sym, subst}
-use Rattle.std.proofs.lemmas.List.Elements.{All-nil}
-use Rattle.std.proofs.lemmas.Option.{none-some}
+use Rattle.std.proofs.Common.{◌≡◌, ◌<◌, ◌∷◌, [], List, ℕ, zero, suc, refl, arith, lit<, sym, subst}
 use Rattle.bloom_steps.specs.declared.steps.vocabulary.Step.TheVariants.{Zero}
 use Rattle.bloom_steps.specs.declared.steps.vocabulary.Call.TheVariants.{Clear}
 use Rattle.bloom_steps.specs.declared.steps.vocabulary.End.TheVariants.{Done}
 use Rattle.bloom_steps.specs.Scripts.{IsScript, Taken}
-use Rattle.bloom_steps.specs.Courses.{AtMostOne, CallAfterCall, Course, Follows, IsLawful, no_call, no_event, records_of, whole_call}
+use Rattle.bloom_steps.specs.Courses.{AtMostOne, CallAfterCall, Course, Follows, IsLawful, no_call, records_of, whole_call}
 use Rattle.bloom_steps.proofs.StepFacts.Members.{each-member, took}
 use Rattle.bloom_steps.proofs.CourseFacts.Carrying.{carried}
 use Rattle.bloom_steps.proofs.CourseFacts.Lawful.{one-word}
 use Rattle.bloom_steps.proofs.CourseFacts.Parties.{none-past}
-use Rattle.bloom_steps.proofs.CourseFacts.Schedules.{cleared, follows-words, schedule}
+use Rattle.bloom_steps.proofs.CourseFacts.Schedules.{cleared, follows, schedule}
 
 -- a clear of one word
 abbrev zeroed : List Taken
@@ -44,27 +42,5 @@ lawful =
 -- the course that follows the schedule is the only lawful one
 only : AtMostOne → (other : Course) → IsLawful 1 other → Follows 1 (9 ∷ []) schedule other
     → other ≡ cleared (9 ∷ [])
-only law other is follows =
-    law 1 1 (9 ∷ []) schedule other (cleared (9 ∷ [])) is follows lawful follows-words
-
--- a course without parties, words and events
-abbrev nothing : Course
-nothing = record { start = []; records = []; words = [] }
-
--- a course without parties, words and events is lawful, also without hashes
-lawful-nothing : IsLawful 0 nothing
-unfolding records_of
-lawful-nothing = record {
-  finds = λ m party step found ended g. absurd (none-some _ g);
-  calls = λ party. no_call;
-  count = refl;
-  bits = λ p. refl;
-  fit = All-nil (λ w. w < 2 ^ 64);
-}
-
--- the law holds where no party has anything to do
-only-nothing : AtMostOne → (other : Course) → IsLawful 0 other → Follows 0 [] [] other
-    → other ≡ nothing
-only-nothing law other is follows =
-    law 0 0 [] [] other nothing is follows lawful-nothing
-    (record { begins = refl; events = no_event [] })
+only law other is follow =
+    law 1 1 (9 ∷ []) schedule other (cleared (9 ∷ [])) is follow lawful follows.0

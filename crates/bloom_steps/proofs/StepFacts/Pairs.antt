@@ -1,10 +1,10 @@
 -- Scripts of calls that take the other filter's words in turn, and steps near one that are none.
-use Rattle.std.proofs.Common.{ap, ◌∙◌, ◌≡◌, ◌+◌, ◌*◌, ◌∷◌, [], List, ℕ, Some, slice_get, true, refl, arith, sym, subst}
+use Rattle.std.proofs.Common.{ap, ◌∙◌, ◌≡◌, ◌+◌, ◌*◌, ◌∷◌, [], List, ℕ, Some, slice_get, refl, arith, sym, subst}
 use Rattle.std.proofs.lemmas.Option.{same_Some}
 use Rattle.bloom_steps.specs.declared.steps.vocabulary.Step.{Step}
-use Rattle.bloom_steps.specs.declared.steps.vocabulary.Step.TheVariants.{Load, Or, And, Other}
-use Rattle.bloom_steps.specs.declared.steps.vocabulary.Call.TheVariants.{Union, Intersect}
-use Rattle.bloom_steps.specs.declared.steps.vocabulary.End.TheVariants.{Running, Done, Answer}
+use Rattle.bloom_steps.specs.declared.steps.vocabulary.Step.TheVariants.{Or, Other}
+use Rattle.bloom_steps.specs.declared.steps.vocabulary.Call.TheVariants.{Union}
+use Rattle.bloom_steps.specs.declared.steps.vocabulary.End.TheVariants.{Running, Done}
 use Rattle.bloom_steps.specs.Scripts.{Taken, ArePairs, IsScript}
 use Rattle.bloom_steps.proofs.StepFacts.Members.{each-member, took}
 
@@ -56,40 +56,3 @@ union-script = record {
   running = each-member _ union ((λ l. refl), ((λ l. absurd (omega (arith, l))), tt));
   last = each-member _ union ((λ l. absurd (omega (arith, l))), ((λ l. refl), tt));
 }
-
--- the mask of a union's write is the word that it read
-union_another_mask : IsScript 1 2 Union
-    (took (Other 0) 5 Running ∷ took (Or 0 4) 0 Done ∷ []) → ⊥
-union_another_mask is = let step = is.steps.writes 0 _ _ refl refl in cc
-
--- a union reads the other filter's word, not its own
-union_own_word : IsScript 1 2 Union (took (Load 0) 5 Running ∷ took (Or 0 5) 0 Done ∷ []) → ⊥
-union_own_word is = let step = is.steps.loads 0 _ refl in cc
-
--- a union clears nothing
-union_intersects : IsScript 1 2 Union (took (Other 0) 5 Running ∷ took (And 0 5) 0 Done ∷ []) → ⊥
-union_intersects is = let step = is.steps.writes 0 _ _ refl refl in cc
-
--- an intersection of one word
-abbrev pub intersect : List Taken
-intersect = took (Other 0) 5 Running ∷ took (And 0 5) 6 Done ∷ []
-
--- these two steps are a whole intersection
-pub intersect-script : IsScript 1 2 Intersect intersect
-intersect-script = record {
-  count = refl;
-  steps = one-pair And 6 5;
-  stops = tt;
-  running = each-member _ intersect ((λ l. refl), ((λ l. absurd (omega (arith, l))), tt));
-  last = each-member _ intersect ((λ l. absurd (omega (arith, l))), ((λ l. refl), tt));
-}
-
--- an intersection sets nothing
-intersect_unites : IsScript 1 2 Intersect
-    (took (Other 0) 5 Running ∷ took (Or 0 5) 6 Done ∷ []) → ⊥
-intersect_unites is = let step = is.steps.writes 0 _ _ refl refl in cc
-
--- an intersection answers nothing
-intersect_answers : IsScript 1 2 Intersect
-    (took (Other 0) 5 Running ∷ took (And 0 5) 6 (Answer true) ∷ []) → ⊥
-intersect_answers is = let last = is.last 1 _ refl refl in cc
