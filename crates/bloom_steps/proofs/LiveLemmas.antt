@@ -2,9 +2,7 @@
 use Rattle.std.proofs.Common.{◌≡◌, ◌∙◌, ℕ, zero, suc, ◌+◌, ◌≤◌, Bool, List, [], ◌∷◌, length, Option, Some, None, ap, refl, subst, sym, arith, slice_get}
 use Rattle.std.proofs.lemmas.Option.{none-some, same_Some}
 use Rattle.bloom_parts.specs.Made.{SharedWords}
-use Rattle.bloom_steps.specs.declared.steps.vocabulary.Call.TheVariants.{Contains, Insert}
-use Rattle.bloom_steps.specs.declared.steps.vocabulary.End.TheVariants.{Done}
-use Rattle.bloom_steps.specs.declared.steps.vocabulary.Call.{Call}
+use Rattle.bloom_steps.specs.Vocabulary.{Contains, Insert, Done, Call}
 use Rattle.bloom_steps.specs.LiveSteps.{EachInTurn, IsMade, Lent, MakesCallInTurn, MakesCallOn, MakesStep, WasInserted}
 use Rattle.bloom_steps.specs.Plans.{plan_of}
 use Rattle.bloom_steps.specs.Scripts.{Taken, Each, Linked, IsScript, IsLastEnd, Drives, answer_of, answer_of_end}

@@ -1,10 +1,7 @@
 -- Courses that were carried out: each step on the words as the one before left them. This project's
 -- own.
 use Rattle.std.specs.Prelude.{ℕ, ◌+◌, ◌<◌, ◌≡◌, List, [], ◌∷◌, length, take, drop}
-use Rattle.bloom_steps.specs.declared.steps.vocabulary.Call.{Call}
-use Rattle.bloom_steps.specs.declared.steps.vocabulary.End.{End}
-use Rattle.bloom_steps.specs.declared.steps.vocabulary.Record.{Record}
-use Rattle.bloom_steps.specs.declared.steps.vocabulary.Record.TheVariants.{Began, Did}
+use Rattle.bloom_steps.specs.Vocabulary.{Call, End, Record, Began, Did}
 use Rattle.bloom_steps.specs.Courses.{Course, records_of, did}
 use Rattle.bloom_steps.specs.Memories.{found_in, words_after_step}
 use Rattle.bloom_steps.specs.Moments.{IsFinished}

@@ -5,10 +5,7 @@ use Rattle.std.specs.Prelude.{ℕ, ◌+◌, ◌/◌, ◌≤◌, ◌<◌, ◌≡�
 use Rattle.bloom_parts.specs.Content.{bit_is_on, content}
 use Rattle.bloom_parts.specs.Places.{IsPosition, are_in}
 use Rattle.bloom_steps.specs.declared.steps.vocabulary.Step.TheVariants.{Take}
-use Rattle.bloom_steps.specs.declared.steps.vocabulary.Call.{Call}
-use Rattle.bloom_steps.specs.declared.steps.vocabulary.Call.TheVariants.{Insert}
-use Rattle.bloom_steps.specs.declared.steps.vocabulary.End.{End}
-use Rattle.bloom_steps.specs.declared.steps.vocabulary.Record.TheVariants.{Began, Did}
+use Rattle.bloom_steps.specs.Vocabulary.{Call, Insert, End, Began, Did}
 use Rattle.bloom_steps.specs.Courses.{Course}
 use Rattle.bloom_steps.specs.Interleavings.{ContainsTell, CountsGains, FindsInserted, GainsOnce, InsertsTell, IsFoundInOther, LosesNothing, TakesLoseNothing, adds_or_takes}
 use Rattle.bloom_steps.specs.Moments.{EveryCall, EveryCallEnded, IsFinished, IsStepAt, bits_of, moment}

@@ -1,15 +1,8 @@
 -- Courses of finished runs: lawful, and following a schedule. The rules are this project's own.
 use Rattle.std.specs.Prelude.{ℕ, ◌/◌, ◌^◌, ◌<◌, ◌≡◌, ◌⊎◌, ◌==◌, Bool, true, false, List, [], ◌∷◌, ◌++◌, length, Some, slice_get, take, if◌then◌else◌}
 use Rattle.bloom_parts.specs.Content.{AreWords, bit_is_on, content}
-use Rattle.bloom_steps.specs.declared.steps.vocabulary.Step.{Step}
-use Rattle.bloom_steps.specs.declared.steps.vocabulary.Step.TheVariants.{Load, Or, And, Zero, Other, Take}
-use Rattle.bloom_steps.specs.declared.steps.vocabulary.Call.{Call}
-use Rattle.bloom_steps.specs.declared.steps.vocabulary.End.{End}
-use Rattle.bloom_steps.specs.declared.steps.vocabulary.End.TheVariants.{Running, Done, Answer}
-use Rattle.bloom_steps.specs.declared.steps.vocabulary.Event.{Event}
-use Rattle.bloom_steps.specs.declared.steps.vocabulary.Event.TheVariants.{Begin, Go}
-use Rattle.bloom_steps.specs.declared.steps.vocabulary.Record.{Record}
-use Rattle.bloom_steps.specs.declared.steps.vocabulary.Record.TheVariants.{Began, Did}
+use Rattle.bloom_steps.specs.Vocabulary.{Step, Load, Or, And, Zero, Other, Call, End, Running, Done, Answer, Event, Begin, Go, Record, Began, Did}
+use Rattle.bloom_steps.specs.declared.steps.vocabulary.Step.TheVariants.{Take}
 use Rattle.bloom_steps.specs.Steps.{after_records}
 use Rattle.bloom_steps.specs.Scripts.{Taken, IsScript, IsBeginning}
 

@@ -2,8 +2,8 @@
 -- This project's own.
 use Rattle.std.specs.Prelude.{◌≡◌, ℕ, List, slice_set}
 use Rattle.std.specs.Borrow.{MutBor}
-use Rattle.bloom_steps.specs.declared.steps.vocabulary.Step.{Step}
-use Rattle.bloom_steps.specs.declared.steps.vocabulary.Step.TheVariants.{Load, Or, And, Zero, Other, Take}
+use Rattle.bloom_steps.specs.Vocabulary.{Step, Load, Or, And, Zero, Other}
+use Rattle.bloom_steps.specs.declared.steps.vocabulary.Step.TheVariants.{Take}
 use Rattle.bloom_steps.specs.LiveSteps.{MakesStepInSpan, Span}
 
 -- the words kept after a step: where it takes a word out, that word at its index

@@ -1,8 +1,7 @@
 -- Which step a machine asks for and what it replies, wherever it stands, and where a word found
 -- leaves it: all that public clauses say of machines. The machine is this project's own.
 use Rattle.std.specs.Prelude.{ℕ, ◌<◌, ◌≡◌, ◌⊎◌, Bool, List, [], ◌∷◌, ◌++◌, Option, Some, None}
-use Rattle.bloom_steps.specs.declared.steps.vocabulary.Step.{Step}
-use Rattle.bloom_steps.specs.declared.steps.vocabulary.Call.{Call}
+use Rattle.bloom_steps.specs.Vocabulary.{Step, Call}
 use Rattle.bloom_steps.specs.declared.steps.machine.Machine.{Machine}
 use Rattle.bloom_steps.specs.Steps.{word_index}
 use Rattle.bloom_steps.specs.Scripts.{Taken, IsScript, IsBeginning, IsNext, answer_of}

@@ -2,8 +2,8 @@
 use Rattle.std.specs.Prelude.{◌≡◌, ◌<◌, ℕ, Bool, List, length, map, slice_index, slice_set, bit_and, bit_or}
 use Rattle.bloom_parts.specs.Content.{content}
 use Rattle.bloom_parts.specs.Deciders.{state}
-use Rattle.bloom_steps.specs.declared.steps.vocabulary.Step.{Step}
-use Rattle.bloom_steps.specs.declared.steps.vocabulary.Step.TheVariants.{Load, Or, And, Zero, Other, Take}
+use Rattle.bloom_steps.specs.Vocabulary.{Step, Load, Or, And, Zero, Other}
+use Rattle.bloom_steps.specs.declared.steps.vocabulary.Step.TheVariants.{Take}
 use Rattle.bloom_steps.specs.Steps.{word_index, step_decides}
 use Rattle.bloom_steps.specs.Scripts.{Taken, Linked}
 

@@ -4,12 +4,7 @@
 -- this is said of the finished course, and is this project's own.
 use Rattle.std.specs.Prelude.{ℕ, ◌+◌, ◌*◌, ◌≤◌, ◌<◌, ◌≡◌, ◌≢◌, ◌&&◌, Bool, true, false, not, List, length, Some, slice_get, take}
 use Rattle.bloom_parts.specs.Content.{content}
-use Rattle.bloom_steps.specs.declared.steps.vocabulary.Step.{Step}
-use Rattle.bloom_steps.specs.declared.steps.vocabulary.Call.{Call}
-use Rattle.bloom_steps.specs.declared.steps.vocabulary.End.{End}
-use Rattle.bloom_steps.specs.declared.steps.vocabulary.End.TheVariants.{Running}
-use Rattle.bloom_steps.specs.declared.steps.vocabulary.Record.{Record}
-use Rattle.bloom_steps.specs.declared.steps.vocabulary.Record.TheVariants.{Began, Did}
+use Rattle.bloom_steps.specs.Vocabulary.{Step, Call, End, Running, Record, Began, Did}
 use Rattle.bloom_steps.specs.Plans.{Plan, plan_of}
 use Rattle.bloom_steps.specs.Steps.{after_records}
 use Rattle.bloom_steps.specs.Courses.{Course, runs}

@@ -2,11 +2,9 @@
 -- line of `plan_of`, and of what its steps decide. Which plans there are, and which call has which,
 -- is this project's choice.
 use Rattle.std.specs.Prelude.{ℕ, ◌*◌, Bool, true, false}
-use Rattle.bloom_steps.specs.declared.steps.vocabulary.Step.{Step}
-use Rattle.bloom_steps.specs.declared.steps.vocabulary.Step.TheVariants.{Or, And, Zero}
+use Rattle.bloom_steps.specs.Vocabulary.{Step, Or, And, Zero, Call, Insert, Contains, Clear, Union, Intersect}
 use Rattle.bloom_steps.specs.declared.steps.vocabulary.Step.TheVariants as step
-use Rattle.bloom_steps.specs.declared.steps.vocabulary.Call.{Call}
-use Rattle.bloom_steps.specs.declared.steps.vocabulary.Call.TheVariants.{Insert, Contains, Clear, Union, Intersect, Take}
+use Rattle.bloom_steps.specs.declared.steps.vocabulary.Call.TheVariants.{Take}
 
 -- the plan of a call: it sets the positions of a hash; or looks at them up to the first that is
 -- clear; or clears each word by one step; or reads each word of the other filter, and sets bits, or

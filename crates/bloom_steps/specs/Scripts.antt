@@ -4,11 +4,7 @@
 use Rattle.std.specs.Prelude.{ℕ, ◌+◌, ◌*◌, ◌≤◌, ◌<◌, ◌≡◌, ◌↔◌, Bool, true, false, List, [], ◌∷◌, ◌++◌, length, Option, Some, None, slice_get}
 use Rattle.bloom_parts.specs.Content.{bit_is_on}
 use Rattle.bloom_parts.specs.Places.{place}
-use Rattle.bloom_steps.specs.declared.steps.vocabulary.Step.{Step}
-use Rattle.bloom_steps.specs.declared.steps.vocabulary.Step.TheVariants.{Other}
-use Rattle.bloom_steps.specs.declared.steps.vocabulary.Call.{Call}
-use Rattle.bloom_steps.specs.declared.steps.vocabulary.End.{End}
-use Rattle.bloom_steps.specs.declared.steps.vocabulary.End.TheVariants.{Running, Done, Answer}
+use Rattle.bloom_steps.specs.Vocabulary.{Step, Other, Call, End, Running, Done, Answer}
 use Rattle.bloom_steps.specs.Plans.{Plan, TurnsOn, LooksAt, EachWord, EachPair, plan_of}
 use Rattle.bloom_steps.specs.Steps.{or_at, load_at}
 

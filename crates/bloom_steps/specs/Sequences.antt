@@ -2,13 +2,9 @@
 -- taken as a command, the other filter is the one whose words its steps found.
 use Rattle.std.specs.Prelude.{◌≡◌, ℕ, Bool, List, [], ◌∷◌, ◌++◌, Some, slice_get, take, map}
 use Rattle.bloom_parts.specs.Content.{content}
-use Rattle.bloom_steps.specs.declared.steps.vocabulary.Step.{Step}
-use Rattle.bloom_steps.specs.declared.steps.vocabulary.Step.TheVariants.{Load, Or, And, Zero, Other}
+use Rattle.bloom_steps.specs.Vocabulary.{Step, Load, Or, And, Zero, Other, Call, Insert, Contains, Clear, Union, Intersect, Record, Began, Did}
 use Rattle.bloom_steps.specs.declared.steps.vocabulary.Step.TheVariants as step
-use Rattle.bloom_steps.specs.declared.steps.vocabulary.Call.{Call}
-use Rattle.bloom_steps.specs.declared.steps.vocabulary.Call.TheVariants.{Insert, Contains, Clear, Union, Intersect, Take}
-use Rattle.bloom_steps.specs.declared.steps.vocabulary.Record.{Record}
-use Rattle.bloom_steps.specs.declared.steps.vocabulary.Record.TheVariants.{Began, Did}
+use Rattle.bloom_steps.specs.declared.steps.vocabulary.Call.TheVariants.{Take}
 use Rattle.bloom_parts.specs.Operations.{Operation, state_after}
 use Rattle.bloom_parts.specs.Operations as operation
 use Rattle.bloom_parts.specs.Operations.{reply}

@@ -5,10 +5,8 @@
 use Rattle.std.specs.Prelude.{ℕ, ◌/◌, ◌%◌, ◌^◌, Bool, true, false, not, ◌&&◌, List, Some, None, map, ◌==◌, if◌then◌else◌}
 use Rattle.bloom_parts.specs.Content.{bit_is_on}
 use Rattle.bloom_parts.specs.Deciders.{Decider, decides_nothing, state}
-use Rattle.bloom_steps.specs.declared.steps.vocabulary.Step.{Step}
-use Rattle.bloom_steps.specs.declared.steps.vocabulary.Step.TheVariants.{Load, Or, And, Zero, Other, Take}
-use Rattle.bloom_steps.specs.declared.steps.vocabulary.Record.{Record}
-use Rattle.bloom_steps.specs.declared.steps.vocabulary.Record.TheVariants.{Began, Did}
+use Rattle.bloom_steps.specs.Vocabulary.{Step, Load, Or, And, Zero, Other, Record, Began, Did}
+use Rattle.bloom_steps.specs.declared.steps.vocabulary.Step.TheVariants.{Take}
 
 -- the index of a step's word
 abbrev pub word_index : Step → ℕ

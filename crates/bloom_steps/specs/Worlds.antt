@@ -1,9 +1,7 @@
 -- What a run keeps while it goes on: a machine for each party, and words and records that agree.
 use Rattle.std.specs.Prelude.{ℕ, ◌^◌, ◌≤◌, ◌<◌, ◌≡◌, Bool, false, not, List, [], ◌++◌, length, Option, Some, None, slice_index_or}
 use Rattle.bloom_parts.specs.Content.{content}
-use Rattle.bloom_steps.specs.declared.steps.vocabulary.Call.{Call}
-use Rattle.bloom_steps.specs.declared.steps.vocabulary.Event.{Event}
-use Rattle.bloom_steps.specs.declared.steps.vocabulary.Record.{Record}
+use Rattle.bloom_steps.specs.Vocabulary.{Call, Event, Record}
 use Rattle.bloom_steps.specs.declared.steps.machine.Machine.{Machine}
 use Rattle.bloom_steps.specs.declared.steps.runner.World.{World}
 use Rattle.bloom_steps.specs.Steps.{after_records}

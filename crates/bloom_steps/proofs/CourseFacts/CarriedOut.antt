@@ -2,9 +2,7 @@
 -- them answers otherwise they are none.
 use Rattle.std.proofs.Common.{◌∷◌, [], arith, false, lit<, refl, true}
 use Rattle.bloom_parts.specs.Places.{IsPosition, are_in}
-use Rattle.bloom_steps.specs.declared.steps.vocabulary.End.TheVariants.{Answer}
-use Rattle.bloom_steps.specs.declared.steps.vocabulary.Record.TheVariants.{Did}
-use Rattle.bloom_steps.specs.declared.steps.vocabulary.Step.TheVariants.{Or}
+use Rattle.bloom_steps.specs.Vocabulary.{Answer, Did, Or}
 use Rattle.bloom_steps.specs.Carried.{CarriedOut, IsCourseOf}
 use Rattle.bloom_steps.specs.CourseLaws.{CourseTells, LawfulTells}
 use Rattle.bloom_steps.specs.Scripts.{IsScript}

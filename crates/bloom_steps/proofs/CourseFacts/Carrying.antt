@@ -2,8 +2,7 @@
 use Rattle.std.proofs.Common.{◌≡◌, ◌<◌, ◌^◌, ◌∷◌, [], List, ℕ, Bool, zero, suc, take, length, ap, sym, subst, ◌∙◌, unwrap_or, refl, map}
 use Rattle.std.proofs.lemmas.Option.{none-some, same_Some}
 use Rattle.bloom_parts.specs.Content.{AreWords, content}
-use Rattle.bloom_steps.specs.declared.steps.vocabulary.Record.{Record}
-use Rattle.bloom_steps.specs.declared.steps.vocabulary.Record.TheVariants.{Began, Did}
+use Rattle.bloom_steps.specs.Vocabulary.{Record, Began, Did}
 use Rattle.bloom_steps.specs.Memories.{found_in, words_after_step}
 use Rattle.bloom_steps.specs.Steps.{after_records, record_decides, step_decides, word_index}
 use Rattle.bloom_steps.specs.Courses.{CallAfterCall, Course, FindsWhatIsThere, IsLawful, MayFind, records_of}

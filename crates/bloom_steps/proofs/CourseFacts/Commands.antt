@@ -2,11 +2,8 @@
 use Rattle.std.proofs.Common.{◌∷◌, [], List, Bool, false, refl, arith}
 use Rattle.bloom_parts.specs.Chain.{chain}
 use Rattle.bloom_parts.specs.Content.{content}
-use Rattle.bloom_parts.specs.Operations as operation
 use Rattle.bloom_parts.specs.Places.{are_in, positions}
-use Rattle.bloom_steps.specs.declared.steps.vocabulary.Step.TheVariants.{Or, Other}
-use Rattle.bloom_steps.specs.declared.steps.vocabulary.Call.TheVariants.{Insert, Union}
-use Rattle.bloom_steps.specs.declared.steps.vocabulary.End.TheVariants.{Running, Done, Answer}
+use Rattle.bloom_steps.specs.Vocabulary.{Or, Other, Insert, Union, Running, Done, Answer}
 use Rattle.bloom_steps.specs.Sequences.{ActsAs, ActsAsCommands, MadeCall}
 use Rattle.bloom_steps.proofs.StepFacts.Members.{took}
 use Rattle.bloom_steps.proofs.CourseFacts.Courses.{in_turn, in_turn_answering}

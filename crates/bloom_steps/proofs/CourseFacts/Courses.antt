@@ -1,10 +1,7 @@
 -- Worked courses, of which the facts beside speak. Hash 0 has position 0 alone. Hash 1 has the
 -- positions 0 and 20 of 64 bits, and 0, 40 and 64 of 128.
 use Rattle.std.proofs.Common.{◌≡◌, refl, ◌∷◌, [], Bool, true, false}
-use Rattle.bloom_steps.specs.declared.steps.vocabulary.Step.TheVariants.{Load, Or, Zero, Other}
-use Rattle.bloom_steps.specs.declared.steps.vocabulary.Call.TheVariants.{Insert, Contains, Clear, Union}
-use Rattle.bloom_steps.specs.declared.steps.vocabulary.End.TheVariants.{Running, Done, Answer}
-use Rattle.bloom_steps.specs.declared.steps.vocabulary.Record.TheVariants.{Began, Did}
+use Rattle.bloom_steps.specs.Vocabulary.{Load, Or, Other, Insert, Contains, Union, Running, Done, Answer, Began, Did}
 use Rattle.bloom_steps.specs.Courses.{Course}
 use Rattle.bloom_steps.specs.Moments.{bits_of}
 

@@ -2,10 +2,7 @@
 use Rattle.std.proofs.Common.{◌≡◌, Bool, ℕ, subst, true, ◌∷◌, [], not, ◌&&◌, refl, arith, sym}
 use Rattle.std.specs.Prelude.{sum_by}
 use Rattle.bloom_parts.specs.Content.{content}
-use Rattle.bloom_steps.specs.declared.steps.vocabulary.Step.TheVariants as step
-use Rattle.bloom_steps.specs.declared.steps.vocabulary.Call.{Call}
-use Rattle.bloom_steps.specs.declared.steps.vocabulary.Call.TheVariants.{Insert}
-use Rattle.bloom_steps.specs.declared.steps.vocabulary.Record.TheVariants.{Began}
+use Rattle.bloom_steps.specs.Vocabulary.{Insert, Began}
 use Rattle.bloom_steps.specs.Interleavings.{CountsGains, bits_gained, bits_new, count_below}
 use Rattle.bloom_steps.specs.Moments.{EveryCall}
 use Rattle.bloom_steps.specs.Plans.{Plan, TurnsOn, goes_by_hash, plan_of}
@@ -25,8 +22,19 @@ pub twins-pass : (test : Plan → Bool) → test (TurnsOn 1) ≡ true → EveryC
 twins-pass test on m party call g =
     each-member (λ m r. r ≡ Began party call → test (plan_of call) ≡ true) twins.records (
       (λ e. insert e),
-      ((λ e. insert e), ((λ e. absurd (cc)), ((λ e. absurd (cc)), ((λ e. absurd (cc)),
-      ((λ e. absurd (cc)), tt))))),
+      (
+        (λ e. insert e),
+        (
+          (λ e. absurd (cc)),
+          (
+            (λ e. absurd (cc)),
+            (
+              (λ e. absurd (cc)),
+              ((λ e. absurd (cc)), tt),
+            ),
+          ),
+        ),
+      ),
     )
     m (Began party call) g refl
   where

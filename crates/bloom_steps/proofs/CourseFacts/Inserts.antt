@@ -1,9 +1,7 @@
 -- What the theorem on the answers of inserts says of the worked courses.
 use Rattle.std.proofs.Common.{Bool, true, refl, arith}
 use Rattle.bloom_parts.specs.Content.{content}
-use Rattle.bloom_steps.specs.declared.steps.vocabulary.Step.TheVariants.{Or}
-use Rattle.bloom_steps.specs.declared.steps.vocabulary.Call.TheVariants.{Insert}
-use Rattle.bloom_steps.specs.declared.steps.vocabulary.End.TheVariants.{Running, Answer}
+use Rattle.bloom_steps.specs.Vocabulary.{Or, Insert, Running, Answer}
 use Rattle.bloom_steps.specs.Interleavings.{InsertsTell, TurnsOneOn}
 use Rattle.bloom_steps.proofs.CourseFacts.Courses.{twins, twins_answering}
 use Rattle.bloom_steps.proofs.CourseFacts.Finished.{finished, step_at}

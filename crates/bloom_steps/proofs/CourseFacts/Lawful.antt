@@ -4,10 +4,7 @@ use Rattle.std.proofs.lemmas.List.Elements.{All-cons, All-nil}
 use Rattle.bloom_parts.specs.Chain.{chain}
 use Rattle.bloom_parts.specs.Content.{AreWords, bit_is_on, content}
 use Rattle.bloom_parts.specs.Places.{place}
-use Rattle.bloom_steps.specs.declared.steps.vocabulary.Step.TheVariants.{Load, Or, Other}
-use Rattle.bloom_steps.specs.declared.steps.vocabulary.Call.TheVariants.{Insert, Contains, Union}
-use Rattle.bloom_steps.specs.declared.steps.vocabulary.Record.TheVariants.{Began, Did}
-use Rattle.bloom_steps.specs.declared.steps.vocabulary.End.TheVariants.{Running, Done, Answer}
+use Rattle.bloom_steps.specs.Vocabulary.{Load, Or, Other, Insert, Contains, Union, Began, Did, Running, Done, Answer}
 use Rattle.bloom_steps.specs.Scripts.{Any, Taken, IsScript}
 use Rattle.bloom_steps.specs.Courses.{CallAfterCall, IsLawful, no_call, begun_call, whole_call, records_of}
 use Rattle.bloom_steps.proofs.StepFacts.Members.{each-member, took}
@@ -109,7 +106,7 @@ first-script = record {
 calls-twins : (party : ℕ) → CallAfterCall 1 2 party (records_of party twins.records)
 unfolding records_of
 calls-twins zero = whole_call (Insert 1) first [] first-script no_call
-calls-twins (suc zero) = whole_call (Insert 1) insert [] insert-script no_call
+calls-twins (suc zero) = whole_call (Insert 1) insert [] is_script.0 no_call
 calls-twins (suc (suc party)) =
     subst (CallAfterCall 1 2 (suc (suc party)))
     (sym (none-past 2 (suc (suc party)) twins.records 6 refl (omega arith))) no_call

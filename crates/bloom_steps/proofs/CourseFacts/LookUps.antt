@@ -4,9 +4,7 @@ use Rattle.std.proofs.lemmas.Bool.{both_ways}
 use Rattle.bloom_parts.specs.Chain.{chain}
 use Rattle.bloom_parts.specs.Content.{content}
 use Rattle.bloom_parts.specs.Places.{IsPosition, are_in, place}
-use Rattle.bloom_steps.specs.declared.steps.vocabulary.Step.TheVariants.{Load, Or}
-use Rattle.bloom_steps.specs.declared.steps.vocabulary.Call.TheVariants.{Insert, Contains}
-use Rattle.bloom_steps.specs.declared.steps.vocabulary.End.TheVariants.{Answer}
+use Rattle.bloom_steps.specs.Vocabulary.{Load, Or, Insert, Contains, Answer}
 use Rattle.bloom_steps.specs.Interleavings.{ContainsTell, FindsInserted}
 use Rattle.bloom_steps.specs.Moments.{IsFinished, NoneTurnedOff, moment, turns_off}
 use Rattle.bloom_steps.proofs.CourseFacts.Courses.{insert_then_contains, insert_then_contains_answering}

@@ -1,11 +1,6 @@
 -- Which records follow a schedule, and which not.
 use Rattle.std.proofs.Common.{◌∷◌, [], List, ℕ, refl, arith, inl, inr}
-use Rattle.bloom_steps.specs.declared.steps.vocabulary.Step.TheVariants.{Zero}
-use Rattle.bloom_steps.specs.declared.steps.vocabulary.Call.TheVariants.{Insert, Clear}
-use Rattle.bloom_steps.specs.declared.steps.vocabulary.End.TheVariants.{Done}
-use Rattle.bloom_steps.specs.declared.steps.vocabulary.Event.{Event}
-use Rattle.bloom_steps.specs.declared.steps.vocabulary.Event.TheVariants.{Begin, Go}
-use Rattle.bloom_steps.specs.declared.steps.vocabulary.Record.TheVariants.{Began, Did}
+use Rattle.bloom_steps.specs.Vocabulary.{Zero, Insert, Clear, Done, Event, Begin, Go, Began, Did}
 use Rattle.bloom_steps.specs.Courses.{Course, Follows, FollowsFrom, no_event, next_event, records_of}
 
 -- events of which two alone make sense to one party: the beginning of its clear, and its step

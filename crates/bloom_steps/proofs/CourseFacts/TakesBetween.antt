@@ -3,12 +3,9 @@ use Rattle.std.specs.Prelude.{sum_by}
 use Rattle.std.proofs.Common.{◌≡◌, ◌∷◌, [], List, ℕ, zero, suc, true, false, Some, refl, arith, sym, subst, lit<, slice_get}
 use Rattle.bloom_parts.specs.Chain.{chain}
 use Rattle.bloom_parts.specs.Content.{content}
-use Rattle.bloom_steps.specs.declared.steps.vocabulary.Step.TheVariants.{Or}
+use Rattle.bloom_steps.specs.Vocabulary.{Or, Call, Insert, Running, Done, Answer, Began, Did}
 use Rattle.bloom_steps.specs.declared.steps.vocabulary.Step.TheVariants as step
-use Rattle.bloom_steps.specs.declared.steps.vocabulary.Call.{Call}
-use Rattle.bloom_steps.specs.declared.steps.vocabulary.Call.TheVariants.{Insert, Take}
-use Rattle.bloom_steps.specs.declared.steps.vocabulary.End.TheVariants.{Running, Done, Answer}
-use Rattle.bloom_steps.specs.declared.steps.vocabulary.Record.TheVariants.{Began, Did}
+use Rattle.bloom_steps.specs.declared.steps.vocabulary.Call.TheVariants.{Take}
 use Rattle.bloom_steps.specs.Courses.{CallAfterCall, Course, IsLawful, no_call, records_of, whole_call}
 use Rattle.bloom_steps.specs.Interleavings.{TakesLoseNothing, adds_or_takes, bits_gained, bits_new, bits_on, bits_taken, count_below}
 use Rattle.bloom_steps.specs.Moments.{bits_of}
@@ -16,6 +13,7 @@ use Rattle.bloom_steps.specs.Scripts.{IsScript, Taken}
 use Rattle.bloom_steps.proofs.CourseFacts.Carrying.{carried}
 use Rattle.bloom_steps.proofs.CourseFacts.Lawful.{one-word}
 use Rattle.bloom_steps.proofs.CourseFacts.Parties.{none-past}
+use Rattle.bloom_steps.proofs.RunLemmas.Gained.{takes_lose_nothing}
 use Rattle.bloom_steps.proofs.StepFacts.Members.{each-member, took}
 
 -- the four numbers of a course: set at the start, set by steps, taken, left

@@ -4,11 +4,7 @@ use Rattle.std.proofs.Common.{[], ◌++◌, ◌∙◌, ◌∷◌, ◌≡◌, Boo
 use Rattle.std.proofs.Math.Seq.{take-append_seam}
 use Rattle.std.proofs.lemmas.Bool.{both_ways}
 use Rattle.bloom_parts.specs.Content.{EqualWordsLaw, content}
-use Rattle.bloom_steps.specs.declared.steps.vocabulary.Event.{Event}
-use Rattle.bloom_steps.specs.declared.steps.vocabulary.Event.TheVariants.{Begin, Go}
-use Rattle.bloom_steps.specs.declared.steps.vocabulary.Record.{Record}
-use Rattle.bloom_steps.specs.declared.steps.vocabulary.Record.TheVariants.{Did}
-use Rattle.bloom_steps.specs.declared.steps.vocabulary.Step.TheVariants.{Other}
+use Rattle.bloom_steps.specs.Vocabulary.{Event, Begin, Go, Record, Did, Other}
 use Rattle.bloom_steps.specs.Scripts.{IsScript, Taken}
 use Rattle.bloom_steps.specs.Steps.{after_records}
 use Rattle.bloom_steps.specs.Courses.{AtMostOne, CallAfterCall, Course, FindsWhatIsThere, Follows, FollowsFrom, IsLawful, Gives, TakesStep, MayFind, next_event, no_event, records_of, runs}

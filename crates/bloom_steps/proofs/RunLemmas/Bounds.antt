@@ -7,10 +7,7 @@ use Rattle.bloom_parts.specs.Content.{bit_is_on, content}
 use Rattle.bloom_parts.specs.Places.{place}
 use Rattle.bloom_parts.proofs.PublishedLemmas.{content-past}
 use Rattle.bloom_steps.specs.Plans.{EachPair, EachWord, LooksAt, Plan, TurnsOn, plan_of}
-use Rattle.bloom_steps.specs.declared.steps.vocabulary.End.{End}
-use Rattle.bloom_steps.specs.declared.steps.vocabulary.Record.{Record}
-use Rattle.bloom_steps.specs.declared.steps.vocabulary.Record.TheVariants.{Began, Did}
-use Rattle.bloom_steps.specs.declared.steps.vocabulary.Step.{Step}
+use Rattle.bloom_steps.specs.Vocabulary.{End, Record, Began, Did, Step}
 use Rattle.bloom_steps.specs.CourseLaws.{BitsTell}
 use Rattle.bloom_steps.specs.Moments.{moment}
 use Rattle.bloom_steps.specs.Scripts.{Taken}

@@ -2,12 +2,7 @@
 use Rattle.std.proofs.Common.{[], ◌++◌, ◌<◌, ◌∙◌, ◌∷◌, ◌≡◌, ◌≢◌, ◌⊎◌, List, Some, ap, arith, inl, inr, refl, slice_get, subst, suc, sym, take, zero, ℕ}
 use Rattle.std.proofs.lemmas.List.{append-nil}
 use Rattle.std.proofs.lemmas.Option.{none-some, same_Some}
-use Rattle.bloom_steps.specs.declared.steps.vocabulary.Call.{Call}
-use Rattle.bloom_steps.specs.declared.steps.vocabulary.End.{End}
-use Rattle.bloom_steps.specs.declared.steps.vocabulary.End.TheVariants.{Running}
-use Rattle.bloom_steps.specs.declared.steps.vocabulary.Record.{Record}
-use Rattle.bloom_steps.specs.declared.steps.vocabulary.Record.TheVariants.{Began, Did}
-use Rattle.bloom_steps.specs.declared.steps.vocabulary.Step.{Step}
+use Rattle.bloom_steps.specs.Vocabulary.{Call, End, Running, Record, Began, Did, Step}
 use Rattle.bloom_steps.specs.Scripts.{IsBeginning, IsScript, Taken}
 use Rattle.bloom_steps.specs.Courses.{CallAfterCall, begun_call, did, no_call, party_of, records_of, whole_call}
 use Rattle.bloom_steps.proofs.RunLemmas.RunningCalls.{OneEnd, one_end-later}

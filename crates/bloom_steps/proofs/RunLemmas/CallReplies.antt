@@ -6,11 +6,8 @@ use Rattle.std.proofs.lemmas.Bool.{both_ways, cases_lt, false_from_ne_true, true
 use Rattle.std.proofs.lemmas.Option.{slice_get_within}
 use Rattle.bloom_parts.specs.Content.{bit_is_on}
 use Rattle.bloom_parts.specs.Places.{are_in, place}
-use Rattle.bloom_steps.specs.declared.steps.vocabulary.End.{End}
-use Rattle.bloom_steps.specs.declared.steps.vocabulary.Call.{Call}
-use Rattle.bloom_steps.specs.declared.steps.vocabulary.Call.TheVariants.{Clear, Contains, Insert, Intersect, Take, Union}
-use Rattle.bloom_steps.specs.declared.steps.vocabulary.End.TheVariants.{Done}
-use Rattle.bloom_steps.specs.declared.steps.vocabulary.Record.TheVariants.{Did}
+use Rattle.bloom_steps.specs.Vocabulary.{End, Call, Clear, Contains, Insert, Intersect, Union, Done, Did}
+use Rattle.bloom_steps.specs.declared.steps.vocabulary.Call.TheVariants.{Take}
 use Rattle.bloom_parts.specs.Operations.{reply}
 use Rattle.bloom_steps.specs.Scripts.{AllFoundOn, IsScript, Taken, answer_of, answer_of_end, Any, IsLastEnd}
 use Rattle.bloom_steps.specs.Sequences.{command_of}

@@ -5,9 +5,8 @@ use Rattle.std.proofs.lemmas.List.{take-append-le}
 use Rattle.std.proofs.lemmas.Option.{none-some, same_Some, slice_get_within}
 use Rattle.std.specs.Option.{option_or}
 use Rattle.bloom_parts.specs.Deciders.{last_decision}
-use Rattle.bloom_steps.specs.declared.steps.vocabulary.Record.{Record}
-use Rattle.bloom_steps.specs.declared.steps.vocabulary.Step.{Step}
-use Rattle.bloom_steps.specs.declared.steps.vocabulary.Step.TheVariants.{And, Load, Or, Other, Take, Zero}
+use Rattle.bloom_steps.specs.Vocabulary.{Record, Step, And, Load, Or, Other, Zero}
+use Rattle.bloom_steps.specs.declared.steps.vocabulary.Step.TheVariants.{Take}
 use Rattle.bloom_steps.specs.Scripts.{Each, Taken}
 use Rattle.bloom_steps.specs.Steps.{after_records, record_decides, step_decides}
 use Rattle.bloom_steps.specs.Courses.{FindsWhatIsThere, IsWordOf, MayFind, did}

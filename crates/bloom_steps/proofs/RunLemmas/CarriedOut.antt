@@ -3,11 +3,8 @@ use Rattle.std.proofs.Common.{[], ◌/◌, ◌<◌, ◌∙◌, ◌∷◌, ◌≡
 use Rattle.std.proofs.lemmas.Option.{none-some, same_Some}
 use Rattle.bloom_parts.specs.Content.{bit_is_on, content}
 use Rattle.bloom_parts.specs.Deciders.{decides_nothing}
-use Rattle.bloom_steps.specs.declared.steps.vocabulary.End.{End}
-use Rattle.bloom_steps.specs.declared.steps.vocabulary.Record.{Record}
-use Rattle.bloom_steps.specs.declared.steps.vocabulary.Record.TheVariants.{Began, Did}
-use Rattle.bloom_steps.specs.declared.steps.vocabulary.Step.{Step}
-use Rattle.bloom_steps.specs.declared.steps.vocabulary.Step.TheVariants.{And, Load, Or, Other, Take, Zero}
+use Rattle.bloom_steps.specs.Vocabulary.{End, Record, Began, Did, Step, And, Load, Or, Other, Zero}
+use Rattle.bloom_steps.specs.declared.steps.vocabulary.Step.TheVariants.{Take}
 use Rattle.bloom_steps.specs.Carried.{CarriedOut, IsCourseOf}
 use Rattle.bloom_steps.specs.CourseLaws.{CourseTells}
 use Rattle.bloom_steps.specs.Courses.{Course}

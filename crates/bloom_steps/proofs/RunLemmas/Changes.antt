@@ -1,14 +1,10 @@
 -- What a record changes, and what stays.
-use Rattle.bloom_steps.specs.declared.steps.vocabulary.End.TheVariants.{Answer}
+use Rattle.bloom_steps.specs.Vocabulary.{Answer, Record, Did, Step, Or}
 use Rattle.std.proofs.Common.{◌%◌, ◌&&◌, ◌+◌, ◌/◌, ◌<◌, ◌^◌, ◌∙◌, ◌≡◌, ◌≢◌, ◌≤◌, ◌⊎◌, Bool, None, Option, Some, ap, arith, eq-eqb, false, if◌then◌else◌, inl, inr, nat_eq, not, refl, slice_get, suc, sym, take, true, unwrap_or, zero, ℕ}
 use Rattle.std.proofs.lemmas.Bool.{and_from, and_parts, both_ways, eqb-true}
 use Rattle.std.proofs.lemmas.Bool.Decides.{eqb_tells}
 use Rattle.std.proofs.lemmas.Nat.Bits.{bit_at-pow_other, bit_at-pow_same}
 use Rattle.bloom_parts.specs.Content.{bit_is_on, content}
-use Rattle.bloom_steps.specs.declared.steps.vocabulary.Record.{Record}
-use Rattle.bloom_steps.specs.declared.steps.vocabulary.Record.TheVariants.{Did}
-use Rattle.bloom_steps.specs.declared.steps.vocabulary.Step.{Step}
-use Rattle.bloom_steps.specs.declared.steps.vocabulary.Step.TheVariants.{Or}
 use Rattle.bloom_steps.specs.Moments.{moment, turns_off, turns_on}
 use Rattle.bloom_steps.specs.Scripts.{Taken}
 use Rattle.bloom_steps.specs.Steps.{after_records, or_at, record_decides, step_decides}

@@ -2,11 +2,9 @@
 use Rattle.std.proofs.Common.{[], ◌*◌, ◌∙◌, ◌∷◌, ◌≡◌, ◌≤◌, Bool, List, None, Option, Some, ap, option_map, length, map, refl, slice_get, subst, suc, sym, take, unwrap_or, zero, ℕ}
 use Rattle.std.proofs.lemmas.Option.{none-some, same_Some}
 use Rattle.bloom_parts.specs.Content.{content}
-use Rattle.bloom_steps.specs.declared.steps.vocabulary.Call.{Call}
+use Rattle.bloom_steps.specs.Vocabulary.{Call, Record, Began}
 use Rattle.bloom_parts.specs.Operations.{asked_by}
 use Rattle.bloom_parts.specs.Places.{are_in}
-use Rattle.bloom_steps.specs.declared.steps.vocabulary.Record.{Record}
-use Rattle.bloom_steps.specs.declared.steps.vocabulary.Record.TheVariants.{Began}
 use Rattle.bloom_parts.specs.Operations.{Operation, decides, state_after}
 use Rattle.bloom_parts.specs.Operations.{reply}
 use Rattle.bloom_steps.specs.Scripts.{answer_of}

@@ -1,8 +1,7 @@
 -- Unions of any kind: each step reads a word of the other filter, or sets what such a step found.
 use Rattle.std.proofs.Common.{◌*◌, ◌+◌, ◌∙◌, ◌≡◌, ◌⊎◌, List, ap, arith, inl, inr, slice_get, sym, ℕ}
 use Rattle.std.proofs.lemmas.Option.{slice_get_within}
-use Rattle.bloom_steps.specs.declared.steps.vocabulary.Call.TheVariants.{Union}
-use Rattle.bloom_steps.specs.declared.steps.vocabulary.Step.TheVariants.{Or, Other}
+use Rattle.bloom_steps.specs.Vocabulary.{Union, Or, Other}
 use Rattle.bloom_steps.specs.Scripts.{Any, Each, IsScript, Taken}
 use Rattle.bloom_steps.proofs.StepLemmas.Going.{parity}
 use Rattle.bloom_steps.proofs.StepLemmas.Members.{some_member}

@@ -3,13 +3,7 @@ use Rattle.std.proofs.Common.{[], ◌++◌, ◌<◌, ◌∙◌, ◌∷◌, ◌�
 use Rattle.std.proofs.lemmas.List.{append-nil}
 use Rattle.bloom_steps.specs.declared.steps.machine.Machine.{Machine}
 use Rattle.bloom_steps.specs.declared.steps.runner.World.{World}
-use Rattle.bloom_steps.specs.declared.steps.vocabulary.Call.{Call}
-use Rattle.bloom_steps.specs.declared.steps.vocabulary.End.{End}
-use Rattle.bloom_steps.specs.declared.steps.vocabulary.Event.{Event}
-use Rattle.bloom_steps.specs.declared.steps.vocabulary.Event.TheVariants.{Begin, Go}
-use Rattle.bloom_steps.specs.declared.steps.vocabulary.Record.{Record}
-use Rattle.bloom_steps.specs.declared.steps.vocabulary.Record.TheVariants.{Began, Did}
-use Rattle.bloom_steps.specs.declared.steps.vocabulary.Step.{Step}
+use Rattle.bloom_steps.specs.Vocabulary.{Call, End, Event, Begin, Go, Record, Began, Did, Step}
 use Rattle.bloom_steps.specs.Courses.{Gives, runs}
 use Rattle.bloom_steps.specs.Memories.{found_in}
 use Rattle.bloom_steps.specs.Worlds.{RecordsGrow, IsWorldOf, slot_runs}

@@ -4,8 +4,7 @@ use Rattle.std.proofs.Common.{[], ◌++◌, ◌+◌, ◌<◌, ◌∷◌, ◌≡�
 use Rattle.std.proofs.lemmas.List.{append-nil}
 use Rattle.std.proofs.lemmas.Option.{slice_get-get_or}
 use Rattle.std.specs.Prelude.{slice_index_or}
-use Rattle.bloom_steps.specs.declared.steps.vocabulary.Event.{Event}
-use Rattle.bloom_steps.specs.declared.steps.vocabulary.Record.{Record}
+use Rattle.bloom_steps.specs.Vocabulary.{Event, Record}
 use Rattle.bloom_steps.specs.Courses.{FollowsFrom, Gives, next_event, no_event}
 use Rattle.bloom_steps.specs.Worlds.{RecordsGrow, IsWorldOf, Happens}
 use Rattle.bloom_steps.proofs.StepLemmas.Members.{take-more}

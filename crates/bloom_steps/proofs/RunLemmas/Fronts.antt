@@ -3,9 +3,7 @@ use Rattle.std.proofs.Common.{[], ◌++◌, ◌+◌, ◌∙◌, ◌∷◌, ◌�
 use Rattle.std.proofs.Math.Seq.{take-append-add}
 use Rattle.std.proofs.lemmas.Bool.{both_ways, false_from_ne_true}
 use Rattle.std.proofs.lemmas.Bool.Decides.{eqb_tells}
-use Rattle.bloom_steps.specs.declared.steps.vocabulary.Call.{Call}
-use Rattle.bloom_steps.specs.declared.steps.vocabulary.Record.{Record}
-use Rattle.bloom_steps.specs.declared.steps.vocabulary.Record.TheVariants.{Began, Did}
+use Rattle.bloom_steps.specs.Vocabulary.{Call, Record, Began, Did}
 use Rattle.bloom_steps.specs.Moments.{EveryCallEnded, OneAtATime}
 use Rattle.bloom_steps.specs.Scripts.{IsScript, Taken}
 use Rattle.bloom_steps.specs.Courses.{CallAfterCall, begun_call, call_records, did, last_leaves_running, leaves_running, party_of, records_of, runs, whole_call}

@@ -2,12 +2,8 @@
 -- ended.
 use Rattle.std.proofs.Common.{◌∙◌, ◌≡◌, List, Some, arith, false, inl, inr, length, refl, slice_get, sym, true, ℕ}
 use Rattle.std.proofs.lemmas.Bool.{both_ways}
-use Rattle.bloom_steps.specs.declared.steps.vocabulary.Call.{Call}
-use Rattle.bloom_steps.specs.declared.steps.vocabulary.Call.TheVariants.{Clear, Contains, Insert, Intersect, Take, Union}
-use Rattle.bloom_steps.specs.declared.steps.vocabulary.End.{End}
-use Rattle.bloom_steps.specs.declared.steps.vocabulary.Record.{Record}
-use Rattle.bloom_steps.specs.declared.steps.vocabulary.Record.TheVariants.{Began, Did}
-use Rattle.bloom_steps.specs.declared.steps.vocabulary.Step.{Step}
+use Rattle.bloom_steps.specs.Vocabulary.{Call, Clear, Contains, Insert, Intersect, Union, End, Record, Began, Did, Step}
+use Rattle.bloom_steps.specs.declared.steps.vocabulary.Call.TheVariants.{Take}
 use Rattle.bloom_steps.specs.Courses.{Course, IsLawful}
 use Rattle.bloom_steps.specs.Interleavings.{CountsGains, TakesLoseNothing, adds_or_takes, bits_taken}
 use Rattle.bloom_steps.specs.Moments.{EveryCall}

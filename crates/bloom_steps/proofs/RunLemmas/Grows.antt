@@ -1,9 +1,7 @@
 -- What is set at the end of a growing run.
 use Rattle.std.proofs.Common.{◌∙◌, ◌≡◌, ◌⊎◌, List, Some, ap, inl, inr, length, subst, sym, true, ℕ}
 use Rattle.std.proofs.lemmas.Bool.{both_ways}
-use Rattle.bloom_steps.specs.declared.steps.vocabulary.Call.{Call}
-use Rattle.bloom_steps.specs.declared.steps.vocabulary.Call.TheVariants.{Insert}
-use Rattle.bloom_steps.specs.declared.steps.vocabulary.Record.TheVariants.{Began, Did}
+use Rattle.bloom_steps.specs.Vocabulary.{Call, Insert, Began, Did}
 use Rattle.bloom_steps.specs.Courses.{Course, IsLawful, runs}
 use Rattle.bloom_steps.specs.CourseLaws.{EndsWithAll, IsInserted}
 use Rattle.bloom_steps.specs.Moments.{EveryCall, EveryCallEnded}

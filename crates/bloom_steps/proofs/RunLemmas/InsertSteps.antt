@@ -4,11 +4,7 @@ use Rattle.std.proofs.Common.{◌&&◌, ◌+◌, ◌/◌, ◌<◌, ◌∙◌, �
 use Rattle.std.proofs.lemmas.Bool.{both_ways, eqb-true}
 use Rattle.std.proofs.lemmas.Option.{none-some}
 use Rattle.bloom_parts.specs.Content.{bit_is_on}
-use Rattle.bloom_steps.specs.declared.steps.vocabulary.End.{End}
-use Rattle.bloom_steps.specs.declared.steps.vocabulary.End.TheVariants.{Answer, Running}
-use Rattle.bloom_steps.specs.declared.steps.vocabulary.Record.TheVariants.{Did}
-use Rattle.bloom_steps.specs.declared.steps.vocabulary.Step.{Step}
-use Rattle.bloom_steps.specs.declared.steps.vocabulary.Step.TheVariants.{Or}
+use Rattle.bloom_steps.specs.Vocabulary.{End, Answer, Running, Did, Step, Or}
 use Rattle.bloom_steps.specs.Courses.{Course}
 use Rattle.bloom_steps.specs.Interleavings.{TurnsOneOn}
 use Rattle.bloom_steps.specs.Moments.{moment, turns_on}

@@ -1,7 +1,6 @@
 -- Counts in courses of calls of any kind: what was set, taken, and left.
 use Rattle.std.proofs.Common.{◌≡◌, Some, inl, inr, refl, slice_get, ℕ}
-use Rattle.bloom_steps.specs.declared.steps.vocabulary.Record.{Record}
-use Rattle.bloom_steps.specs.declared.steps.vocabulary.Record.TheVariants.{Began, Did}
+use Rattle.bloom_steps.specs.Vocabulary.{Record, Began, Did}
 use Rattle.bloom_steps.specs.CourseLaws.{EachStepOf}
 use Rattle.bloom_steps.specs.Courses.{Course}
 use Rattle.bloom_steps.specs.Interleavings.{LosesNothing, adds_or_takes, bits_taken}

@@ -1,8 +1,6 @@
 -- What every interleaving of calls of any kind gives, and with it how growing courses end.
 use Rattle.std.proofs.Common.{◌/◌, ◌≡◌, Bool, List, inl, inr, true, ℕ}
-use Rattle.bloom_steps.specs.declared.steps.vocabulary.Call.{Call}
-use Rattle.bloom_steps.specs.declared.steps.vocabulary.Call.TheVariants.{Insert}
-use Rattle.bloom_steps.specs.declared.steps.vocabulary.End.{End}
+use Rattle.bloom_steps.specs.Vocabulary.{Call, Insert, End}
 use Rattle.bloom_steps.specs.declared.steps.vocabulary.Step.TheVariants as step
 use Rattle.bloom_steps.specs.Carried.{MadeBetween}
 use Rattle.bloom_steps.specs.CourseLaws.{CourseTells, EachStepOf, EndsWithInserts, EndsWithUnions, HasFinishedInsert, IsStepOf}

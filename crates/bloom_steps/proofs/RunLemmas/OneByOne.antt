@@ -1,8 +1,7 @@
 -- Calls made one at a time: the records are whole calls, one after the other.
 use Rattle.std.proofs.Common.{[], ◌++◌, ◌<◌, ◌∙◌, ◌∷◌, ◌≡◌, ◌≤◌, List, ap, arith, length, length-append, refl, subst, suc, sym, zero, ℕ}
 use Rattle.std.proofs.lemmas.List.{append-nil}
-use Rattle.bloom_steps.specs.declared.steps.vocabulary.Call.{Call}
-use Rattle.bloom_steps.specs.declared.steps.vocabulary.Record.{Record}
+use Rattle.bloom_steps.specs.Vocabulary.{Call, Record}
 use Rattle.bloom_steps.specs.Moments.{EveryCallEnded, OneAtATime}
 use Rattle.bloom_steps.specs.Scripts.{IsScript, Taken}
 use Rattle.bloom_steps.specs.Sequences.{Cut, MadeCall, cut}

@@ -4,9 +4,7 @@ use Rattle.bloom_steps.specs.Plans.{turns_none_off, Plan, plan_of, TurnsOn, Look
 use Rattle.std.proofs.Common.{[], ◌%◌, ◌*◌, ◌/◌, ◌^◌, ◌∙◌, ◌∷◌, ◌≡◌, ◌⊎◌, Bool, List, None, Option, Some, ap, inl, inr, length, map, refl, slice_get, subst, suc, sym, true, unwrap_or, ℕ, false}
 use Rattle.std.proofs.lemmas.Bool.{both_ways}
 use Rattle.bloom_parts.specs.Places.{place}
-use Rattle.bloom_steps.specs.declared.steps.vocabulary.Call.{Call}
-use Rattle.bloom_steps.specs.declared.steps.vocabulary.Record.{Record}
-use Rattle.bloom_steps.specs.declared.steps.vocabulary.Record.TheVariants.{Began, Did}
+use Rattle.bloom_steps.specs.Vocabulary.{Call, Record, Began, Did}
 use Rattle.bloom_steps.specs.Moments.{EveryCall}
 use Rattle.bloom_steps.specs.Scripts.{Taken}
 use Rattle.bloom_steps.specs.Steps.{after_records, record_decides, step_decides}

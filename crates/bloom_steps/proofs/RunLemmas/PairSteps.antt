@@ -5,8 +5,7 @@ use Rattle.std.proofs.lemmas.Bool.Decides.{eqb_tells}
 use Rattle.std.proofs.lemmas.Option.{get_or_from_slice_get, none-some, same_Some, slice_get_within}
 use Rattle.bloom_parts.specs.Content.{bit_is_on, content}
 use Rattle.bloom_parts.proofs.PublishedLemmas.{content-past}
-use Rattle.bloom_steps.specs.declared.steps.vocabulary.Step.{Step}
-use Rattle.bloom_steps.specs.declared.steps.vocabulary.Step.TheVariants.{Other}
+use Rattle.bloom_steps.specs.Vocabulary.{Step, Other}
 use Rattle.bloom_steps.specs.Scripts.{ArePairs, Taken}
 use Rattle.bloom_steps.specs.Sequences.{found_in_other, other_words}
 use Rattle.bloom_steps.specs.Steps.{after_records, step_decides}

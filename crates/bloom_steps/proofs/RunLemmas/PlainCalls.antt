@@ -4,7 +4,7 @@ use Rattle.std.proofs.lemmas.Option.{none-some, slice_get_within}
 use Rattle.bloom_parts.specs.Content.{bit_is_on}
 use Rattle.bloom_parts.specs.Places.{IsPosition, are_in, place}
 use Rattle.bloom_parts.proofs.PublishedLemmas.{are_in-off, place-position}
-use Rattle.bloom_steps.specs.declared.steps.vocabulary.Call.TheVariants.{Contains, Insert}
+use Rattle.bloom_steps.specs.Vocabulary.{Contains, Insert}
 use Rattle.bloom_steps.specs.Carried.{IsCourseOf}
 use Rattle.bloom_steps.specs.CourseLaws.{CourseTells}
 use Rattle.bloom_steps.specs.Courses.{Course, IsLawful}

@@ -2,11 +2,7 @@
 use Rattle.bloom_steps.specs.Plans.{plan_of}
 use Rattle.std.proofs.Common.{[], ◌++◌, ◌+◌, ◌∙◌, ◌∷◌, ◌≡◌, ◌⊎◌, Bool, List, Some, inl, inr, length, refl, slice_get, suc, sym, zero, ℕ}
 use Rattle.std.proofs.lemmas.Option.{none-some, same_Some}
-use Rattle.bloom_steps.specs.declared.steps.vocabulary.Call.{Call}
-use Rattle.bloom_steps.specs.declared.steps.vocabulary.End.{End}
-use Rattle.bloom_steps.specs.declared.steps.vocabulary.Record.{Record}
-use Rattle.bloom_steps.specs.declared.steps.vocabulary.Record.TheVariants.{Began, Did}
-use Rattle.bloom_steps.specs.declared.steps.vocabulary.Step.{Step}
+use Rattle.bloom_steps.specs.Vocabulary.{Call, End, Record, Began, Did, Step}
 use Rattle.bloom_steps.specs.Scripts.{Taken}
 use Rattle.bloom_steps.specs.Courses.{CallAfterCall, Course, IsLawful, begun_call, did, last_leaves_running, no_call, party_of, records_of, runs, whole_call}
 use Rattle.bloom_steps.proofs.RunLemmas.RunningCalls.{newest-call, newest_kept, still_runs-beginning}

@@ -2,12 +2,7 @@
 use Rattle.bloom_steps.specs.Plans.{plan_of}
 use Rattle.std.proofs.Common.{[], ◌++◌, ◌+◌, ◌-◌, ◌<◌, ◌∙◌, ◌∷◌, ◌≡◌, ◌≢◌, ◌≤◌, Bool, List, Some, ap, arith, false, length, not, refl, slice_get, subst, suc, sym, true, zero, ℕ}
 use Rattle.std.proofs.lemmas.Option.{none-some, same_Some}
-use Rattle.bloom_steps.specs.declared.steps.vocabulary.Call.{Call}
-use Rattle.bloom_steps.specs.declared.steps.vocabulary.End.{End}
-use Rattle.bloom_steps.specs.declared.steps.vocabulary.End.TheVariants.{Answer, Done, Running}
-use Rattle.bloom_steps.specs.declared.steps.vocabulary.Record.{Record}
-use Rattle.bloom_steps.specs.declared.steps.vocabulary.Record.TheVariants.{Began, Did}
-use Rattle.bloom_steps.specs.declared.steps.vocabulary.Step.{Step}
+use Rattle.bloom_steps.specs.Vocabulary.{Call, End, Answer, Done, Running, Record, Began, Did, Step}
 use Rattle.bloom_steps.specs.declared.steps.machine.Machine.{Machine}
 use Rattle.bloom_steps.specs.Standing.{StandsAt}
 use Rattle.bloom_parts.specs.Operations.{reply}

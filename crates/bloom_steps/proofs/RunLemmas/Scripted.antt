@@ -4,12 +4,8 @@ use Rattle.std.proofs.Common.{◌+◌, ◌-◌, ◌/◌, ◌<◌, ◌∙◌, ◌
 use Rattle.std.proofs.lemmas.Bool.Decides.{eqb_tells}
 use Rattle.std.proofs.lemmas.Option.{slice_get_within}
 use Rattle.bloom_parts.specs.Content.{bit_is_on}
-use Rattle.bloom_steps.specs.declared.steps.vocabulary.Call.{Call}
-use Rattle.bloom_steps.specs.declared.steps.vocabulary.End.{End}
-use Rattle.bloom_steps.specs.declared.steps.vocabulary.End.TheVariants.{Running}
-use Rattle.bloom_steps.specs.declared.steps.vocabulary.Record.TheVariants.{Did}
-use Rattle.bloom_steps.specs.declared.steps.vocabulary.Step.{Step}
-use Rattle.bloom_steps.specs.declared.steps.vocabulary.Step.TheVariants.{And, Load, Or, Other, Take, Zero}
+use Rattle.bloom_steps.specs.Vocabulary.{Call, End, Running, Did, Step, And, Load, Or, Other, Zero}
+use Rattle.bloom_steps.specs.declared.steps.vocabulary.Step.TheVariants.{Take}
 use Rattle.bloom_steps.specs.Carried.{MadeBetween}
 use Rattle.bloom_steps.specs.Courses.{Course}
 use Rattle.bloom_steps.specs.CourseLaws.{BitsTell}

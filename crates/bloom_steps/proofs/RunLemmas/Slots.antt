@@ -3,7 +3,7 @@ use Rattle.bloom_steps.specs.Plans.{plan_of}
 use Rattle.std.proofs.Common.{[], ◌<◌, ◌∙◌, ◌∷◌, ◌≡◌, Bool, List, None, Option, Some, arith, false, if◌then◌else◌, length, not, refl, suc, sym, true, zero, ℕ}
 use Rattle.std.proofs.lemmas.Option.{none-some}
 use Rattle.std.specs.Prelude.{slice_index_or}
-use Rattle.bloom_steps.specs.declared.steps.vocabulary.Step.{Step}
+use Rattle.bloom_steps.specs.Vocabulary.{Step}
 use Rattle.bloom_steps.specs.declared.steps.machine.Machine.{Machine}
 use Rattle.bloom_steps.specs.Standing.{asks, next_step}
 

@@ -5,7 +5,7 @@ use Rattle.std.proofs.lemmas.List.Sums.{sum_by_more}
 use Rattle.std.proofs.lemmas.Option.{get_or_from_slice_get}
 use Rattle.std.specs.Prelude.{sum_by}
 use Rattle.bloom_parts.specs.Content.{content}
-use Rattle.bloom_steps.specs.declared.steps.vocabulary.Record.{Record}
+use Rattle.bloom_steps.specs.Vocabulary.{Record}
 use Rattle.bloom_steps.specs.CourseLaws.{BitsTell}
 use Rattle.bloom_steps.specs.Courses.{Course}
 use Rattle.bloom_steps.specs.Interleavings.{GainsOnce, IsBalanced, LosesNothing, bits_gained, bits_taken, count_below}

@@ -5,7 +5,7 @@ use Rattle.bloom_parts.specs.Content.{AreWords}
 use Rattle.bloom_parts.specs.Places.{IsPosition, are_in}
 use Rattle.bloom_parts.specs.declared.error.FilterError.TheVariants.{Memory}
 use Rattle.bloom_steps.specs.declared.steps.runner.World.{World}
-use Rattle.bloom_steps.specs.declared.steps.vocabulary.Event.{Event}
+use Rattle.bloom_steps.specs.Vocabulary.{Event}
 use Rattle.bloom_steps.specs.CourseLaws.{EndsWithAll}
 use Rattle.bloom_steps.specs.Courses.{Course, Follows, FollowsFrom, IsLawful}
 use Rattle.bloom_steps.specs.Interleavings.{ContainsTell, CountsGains, FindsInserted, InsertsTell, TakesLoseNothing}

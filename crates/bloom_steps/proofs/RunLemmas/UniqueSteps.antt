@@ -5,11 +5,9 @@ use Rattle.std.proofs.lemmas.Nat.Bits.{bit_at-lt, same_from_bits_below}
 use Rattle.std.specs.Int.{bit_at}
 use Rattle.bloom_parts.specs.Content.{bit_is_on}
 use Rattle.bloom_parts.specs.Places.{place}
-use Rattle.bloom_steps.specs.declared.steps.vocabulary.Call.{Call}
+use Rattle.bloom_steps.specs.Vocabulary.{Call, Answer, Step, And, Load, Or, Other, Zero}
 use Rattle.bloom_steps.specs.Plans.{EachPair, EachWord, LooksAt, Plan, TurnsOn, plan_of}
-use Rattle.bloom_steps.specs.declared.steps.vocabulary.End.TheVariants.{Answer}
-use Rattle.bloom_steps.specs.declared.steps.vocabulary.Step.{Step}
-use Rattle.bloom_steps.specs.declared.steps.vocabulary.Step.TheVariants.{And, Load, Or, Other, Take, Zero}
+use Rattle.bloom_steps.specs.declared.steps.vocabulary.Step.TheVariants.{Take}
 use Rattle.bloom_steps.specs.Scripts.{Any, IsLastEnd, IsScript, Taken, Fulfils}
 use Rattle.bloom_steps.specs.Courses.{IsWordOf, MayFind}
 use Rattle.bloom_steps.proofs.StepLemmas.Growing.{length-more}

@@ -2,11 +2,8 @@
 -- Each machine here is on two words with three hashes.
 use Rattle.std.proofs.Common.{◌≡◌, ◌<◌, ℕ, Bool, None, Some, true, false, refl, arith, lit<}
 use Rattle.std.proofs.lemmas.Bool.{both_ways}
-use Rattle.bloom_parts.specs.Chain.{chain}
-use Rattle.bloom_steps.specs.declared.steps.vocabulary.Step.TheVariants.{Or}
-use Rattle.bloom_steps.specs.declared.steps.vocabulary.Step.TheVariants as step
-use Rattle.bloom_steps.specs.declared.steps.vocabulary.Call.{Call}
-use Rattle.bloom_steps.specs.declared.steps.vocabulary.Call.TheVariants.{Insert, Contains, Clear, Union, Intersect, Take}
+use Rattle.bloom_steps.specs.Vocabulary.{Or, Call, Insert, Contains, Clear, Union}
+use Rattle.bloom_steps.specs.declared.steps.vocabulary.Call.TheVariants.{Take}
 use Rattle.bloom_steps.specs.declared.steps.machine.Machine.{Machine}
 use Rattle.bloom_steps.specs.Plans.{most_steps, plan_of}
 use Rattle.bloom_steps.specs.Standing.{answers, asks, left}

@@ -3,8 +3,7 @@
 use Rattle.std.proofs.Common.{◌/◌, ◌<◌, ◌≡◌, ◌∷◌, [], Bool, List, Some, ap, arith, false, lit<, refl, slice_get, suc, sym, true, zero, ℕ}
 use Rattle.std.proofs.lemmas.Option.{none-some, same_Some}
 use Rattle.bloom_parts.specs.Content.{content}
-use Rattle.bloom_steps.specs.declared.steps.vocabulary.End.TheVariants.{Answer, Running}
-use Rattle.bloom_steps.specs.declared.steps.vocabulary.Step.TheVariants.{Or}
+use Rattle.bloom_steps.specs.Vocabulary.{Answer, Running, Or}
 use Rattle.bloom_steps.specs.ByWords.{Lacks, SetsByWords, SetsItsPart}
 use Rattle.bloom_steps.specs.Scripts.{Any, Taken}
 use Rattle.bloom_steps.specs.Steps.{word_index}

@@ -7,8 +7,7 @@ use Rattle.std.proofs.lemmas.Option.{none-some}
 use Rattle.bloom_steps.proofs.StepLemmas.Replying.{stands_further}
 use Rattle.bloom_steps.proofs.StepLemmas.Asking.{asks_right}
 use Rattle.bloom_parts.specs.Chain.{chain, added_of}
-use Rattle.bloom_steps.specs.declared.steps.vocabulary.Step.TheVariants.{Load, Or}
-use Rattle.bloom_steps.specs.declared.steps.vocabulary.Call.TheVariants.{Insert}
+use Rattle.bloom_steps.specs.Vocabulary.{Load, Or, Insert}
 use Rattle.bloom_steps.specs.declared.steps.machine.Machine.{Machine}
 use Rattle.bloom_steps.specs.Standing.{StandsAt}
 use Rattle.bloom_steps.specs.Machines.{AsksRight, AnswersRight, StandsFurther}

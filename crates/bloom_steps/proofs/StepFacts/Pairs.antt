@@ -1,10 +1,7 @@
 -- Scripts of calls that take the other filter's words in turn, and steps near one that are none.
 use Rattle.std.proofs.Common.{ap, ◌∙◌, ◌≡◌, ◌+◌, ◌*◌, ◌∷◌, [], List, ℕ, Some, slice_get, refl, arith, sym, subst}
 use Rattle.std.proofs.lemmas.Option.{same_Some}
-use Rattle.bloom_steps.specs.declared.steps.vocabulary.Step.{Step}
-use Rattle.bloom_steps.specs.declared.steps.vocabulary.Step.TheVariants.{Or, Other}
-use Rattle.bloom_steps.specs.declared.steps.vocabulary.Call.TheVariants.{Union}
-use Rattle.bloom_steps.specs.declared.steps.vocabulary.End.TheVariants.{Running, Done}
+use Rattle.bloom_steps.specs.Vocabulary.{Step, Or, Other, Union, Running, Done}
 use Rattle.bloom_steps.specs.Scripts.{Taken, ArePairs, IsScript}
 use Rattle.bloom_steps.proofs.StepFacts.Members.{each-member, took}
 

@@ -2,9 +2,7 @@
 -- positions 0 and 20.
 use Rattle.std.proofs.Common.{◌∷◌, [], List, true, false, refl, arith}
 use Rattle.bloom_parts.specs.Chain.{chain}
-use Rattle.bloom_steps.specs.declared.steps.vocabulary.Step.TheVariants.{Or}
-use Rattle.bloom_steps.specs.declared.steps.vocabulary.Call.TheVariants.{Insert}
-use Rattle.bloom_steps.specs.declared.steps.vocabulary.End.TheVariants.{Running, Answer}
+use Rattle.bloom_steps.specs.Vocabulary.{Or, Insert, Running, Answer}
 use Rattle.bloom_steps.specs.Scripts.{Taken, IsScript}
 use Rattle.bloom_steps.proofs.StepFacts.Members.{each-member, took}
 use Rattle.bloom_steps.proofs.StepLemmas.Finding.{ends-off}

@@ -1,8 +1,8 @@
 -- What a step finds and does in memory, and what is near that and doesn't hold.
 use Rattle.std.proofs.Common.{◌≡◌, ◌∷◌, [], ℕ, None, Some, true, refl, arith, sym}
 use Rattle.bloom_parts.specs.Content.{content}
-use Rattle.bloom_steps.specs.declared.steps.vocabulary.Step.TheVariants.{And, Load, Or, Other, Take, Zero}
-use Rattle.bloom_steps.specs.declared.steps.vocabulary.Call.TheVariants.{Union}
+use Rattle.bloom_steps.specs.Vocabulary.{And, Load, Or, Other, Zero, Union}
+use Rattle.bloom_steps.specs.declared.steps.vocabulary.Step.TheVariants.{Take}
 use Rattle.bloom_steps.specs.Memories.{Memory, Moves, Makes, MemoryLaw}
 use Rattle.bloom_steps.specs.Scripts.{Linked, Drives}
 use Rattle.bloom_steps.specs.Steps.{word_index}

@@ -3,11 +3,8 @@ use Rattle.std.proofs.Common.{[], ◌*◌, ◌++◌, ◌+◌, ◌-◌, ◌∷◌
 use Rattle.bloom_parts.specs.Content.{bit_is_on}
 use Rattle.bloom_parts.specs.Places.{place}
 use Rattle.bloom_parts.proofs.PublishedLemmas.{bit_is_on-zero}
-use Rattle.bloom_steps.specs.declared.steps.vocabulary.Call.{Call}
+use Rattle.bloom_steps.specs.Vocabulary.{Call, End, Answer, Done, Running, Step}
 use Rattle.bloom_steps.specs.Plans.{EachPair, EachWord, LooksAt, Plan, TurnsOn, plan_of}
-use Rattle.bloom_steps.specs.declared.steps.vocabulary.End.{End}
-use Rattle.bloom_steps.specs.declared.steps.vocabulary.End.TheVariants.{Answer, Done, Running}
-use Rattle.bloom_steps.specs.declared.steps.vocabulary.Step.{Step}
 use Rattle.bloom_steps.specs.Standing.{GoesOn}
 use Rattle.bloom_steps.specs.Plans.{most_steps}
 use Rattle.bloom_steps.specs.Scripts.{IsBeginning, Taken, Fulfils}

@@ -3,7 +3,7 @@ use Rattle.std.proofs.Common.{[], ◌++◌, ◌∙◌, ◌∷◌, ◌≡◌, Boo
 use Rattle.std.proofs.lemmas.List.{map-append}
 use Rattle.bloom_parts.specs.Deciders.{Decider, last_decision, state}
 use Rattle.bloom_parts.proofs.PublishedLemmas.{state-append}
-use Rattle.bloom_steps.specs.declared.steps.vocabulary.Record.{Record}
+use Rattle.bloom_steps.specs.Vocabulary.{Record}
 use Rattle.bloom_steps.specs.Steps.{after_records, record_decides}
 
 -- the first decider can be taken into the set before

@@ -7,10 +7,7 @@ use Rattle.bloom_parts.specs.declared.hasher.chain.DoubleHasher.{DoubleHasher}
 use Rattle.bloom_parts.specs.Chain.{IsAt, chain}
 use Rattle.bloom_parts.specs.Content.{bit_is_on, index_of}
 use Rattle.bloom_parts.specs.Places.{place}
-use Rattle.bloom_steps.specs.declared.steps.vocabulary.End.{End}
-use Rattle.bloom_steps.specs.declared.steps.vocabulary.End.TheVariants.{Running, Done, Answer}
-use Rattle.bloom_steps.specs.declared.steps.vocabulary.Step.{Step}
-use Rattle.bloom_steps.specs.declared.steps.vocabulary.Step.TheVariants.{Or, Load, Other}
+use Rattle.bloom_steps.specs.Vocabulary.{End, Running, Done, Answer, Step, Or, Load, Other}
 use Rattle.bloom_steps.specs.Plans.{EachPair, EachWord, LooksAt, TurnsOn}
 use Rattle.bloom_steps.specs.Scripts.{Any, DrivesPlan, Taken}
 use Rattle.bloom_steps.specs.Steps.{or_at, load_at}

@@ -3,7 +3,7 @@ use Rattle.std.proofs.Common.{[], ◌&&◌, ◌*◌, ◌++◌, ◌↔◌, ◌∙
 use Rattle.std.proofs.lemmas.Bool.{both_ways}
 use Rattle.bloom_parts.specs.Content.{bit_is_on}
 use Rattle.bloom_parts.specs.Places.{place}
-use Rattle.bloom_steps.specs.declared.steps.vocabulary.End.TheVariants.{Answer}
+use Rattle.bloom_steps.specs.Vocabulary.{Answer}
 use Rattle.bloom_steps.specs.Plans.{TurnsOn}
 use Rattle.bloom_steps.specs.Scripts.{Any, IsLastEnd, Taken}
 use Rattle.bloom_steps.proofs.StepLemmas.Members.{member-front, member-seam, member_of_more}

@@ -1,10 +1,8 @@
 -- The step with which a call goes on, and that there is one alone.
 use Rattle.std.proofs.Common.{◌*◌, ◌++◌, ◌+◌, ◌∙◌, ◌∷◌, ◌≡◌, ◌⊎◌, List, Some, ap, arith, inl, inr, length, refl, slice_get, subst, suc, sym, zero, ℕ}
 use Rattle.std.proofs.lemmas.Option.{same_Some}
-use Rattle.bloom_steps.specs.declared.steps.vocabulary.Call.{Call}
+use Rattle.bloom_steps.specs.Vocabulary.{Call, Step, Other}
 use Rattle.bloom_steps.specs.Plans.{EachPair, EachWord, LooksAt, Plan, TurnsOn, plan_of}
-use Rattle.bloom_steps.specs.declared.steps.vocabulary.Step.{Step}
-use Rattle.bloom_steps.specs.declared.steps.vocabulary.Step.TheVariants.{Other}
 use Rattle.bloom_steps.specs.Scripts.{ArePairs, IsNext, IsScript, Taken, AreStepsOf}
 use Rattle.bloom_steps.proofs.StepLemmas.Growing.{FitsNext, IsNextOfPairs}
 use Rattle.bloom_steps.proofs.StepLemmas.Members.{member-front, member-seam, some_member}

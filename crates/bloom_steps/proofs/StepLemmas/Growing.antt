@@ -3,9 +3,7 @@ use Rattle.std.proofs.Common.{[], ◌*◌, ◌++◌, ◌+◌, ◌<◌, ◌∙◌
 use Rattle.bloom_parts.specs.Content.{bit_is_on}
 use Rattle.bloom_parts.specs.Places.{place}
 use Rattle.bloom_steps.specs.Plans.{EachPair, EachWord, LooksAt, Plan, TurnsOn}
-use Rattle.bloom_steps.specs.declared.steps.vocabulary.End.TheVariants.{Answer, Done, Running}
-use Rattle.bloom_steps.specs.declared.steps.vocabulary.Step.{Step}
-use Rattle.bloom_steps.specs.declared.steps.vocabulary.Step.TheVariants.{Other}
+use Rattle.bloom_steps.specs.Vocabulary.{Answer, Done, Running, Step, Other}
 use Rattle.bloom_steps.specs.Standing.{GoesOn, KeepsOn}
 use Rattle.bloom_steps.specs.Plans.{most_steps}
 use Rattle.bloom_steps.specs.Scripts.{ArePairs, AreStepsOf, Each, HasCount, IsLastEnd, StopsRight, Taken, Fulfils}

@@ -4,8 +4,7 @@ use Rattle.std.specs.Int.{bit_at}
 use Rattle.std.proofs.lemmas.Bool.{both_ways, cases_lt, eqb-true}
 use Rattle.bloom_parts.specs.Content.{bit_is_on, content}
 use Rattle.bloom_parts.proofs.PublishedLemmas.{content-past}
-use Rattle.bloom_steps.specs.declared.steps.vocabulary.End.{End}
-use Rattle.bloom_steps.specs.declared.steps.vocabulary.Step.TheVariants.{Or}
+use Rattle.bloom_steps.specs.Vocabulary.{End, Or}
 use Rattle.bloom_steps.specs.ByWords.{HasAll, IsThere, Lacks, SetsItsPart}
 use Rattle.bloom_steps.proofs.StepLemmas.Driving.{made}
 use Rattle.bloom_steps.proofs.StepLemmas.Writing.{content-word}

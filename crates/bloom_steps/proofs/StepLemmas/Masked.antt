@@ -4,10 +4,7 @@ use Rattle.std.proofs.lemmas.Bool.{both_ways, cases_lt}
 use Rattle.std.proofs.lemmas.Option.{none-some, slice_get_within}
 use Rattle.bloom_parts.specs.Content.{bit_is_on, content}
 use Rattle.bloom_parts.proofs.PublishedLemmas.{bit_is_on-zero}
-use Rattle.bloom_steps.specs.declared.steps.vocabulary.End.{End}
-use Rattle.bloom_steps.specs.declared.steps.vocabulary.End.TheVariants.{Answer, Running}
-use Rattle.bloom_steps.specs.declared.steps.vocabulary.Step.{Step}
-use Rattle.bloom_steps.specs.declared.steps.vocabulary.Step.TheVariants.{Or}
+use Rattle.bloom_steps.specs.Vocabulary.{End, Answer, Running, Step, Or}
 use Rattle.bloom_steps.specs.ByWords.{DrivesByWords, HasAll, Lacks, SetsItsPart, SetsMask}
 use Rattle.bloom_steps.specs.Scripts.{AllButLast, Any, Each, Last, Linked, Taken}
 use Rattle.bloom_steps.specs.Steps.{word_index}

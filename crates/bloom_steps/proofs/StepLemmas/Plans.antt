@@ -2,10 +2,8 @@
 use Rattle.std.proofs.Common.{◌/◌, ◌≡◌, ◌∙◌, ◌⊎◌, [], Bool, ap, inl, inr, None, Option, Some, false, if◌then◌else◌, nat_eq, not, ◌&&◌, refl, true, ℕ}
 use Rattle.std.proofs.lemmas.Bool.{both_ways}
 use Rattle.bloom_parts.specs.Content.{bit_is_on}
-use Rattle.bloom_steps.specs.declared.steps.vocabulary.Call.{Call}
-use Rattle.bloom_steps.specs.declared.steps.vocabulary.Call.TheVariants.{Clear, Contains, Insert, Intersect, Take, Union}
-use Rattle.bloom_steps.specs.declared.steps.vocabulary.Step.{Step}
-use Rattle.bloom_steps.specs.declared.steps.vocabulary.Step.TheVariants.{And, Or}
+use Rattle.bloom_steps.specs.Vocabulary.{Call, Clear, Contains, Insert, Intersect, Union, Step, And, Or}
+use Rattle.bloom_steps.specs.declared.steps.vocabulary.Call.TheVariants.{Take}
 use Rattle.bloom_steps.specs.Interleavings.{adds_or_takes}
 use Rattle.bloom_steps.specs.Plans.{EachPair, EachWord, LooksAt, Plan, TurnsOn, goes_by_hash, plan_of, turns_none_off}
 use Rattle.bloom_steps.specs.Sequences.{found_in_other}

@@ -4,10 +4,8 @@ use Rattle.std.proofs.Common.{[], ◌&&◌, ◌*◌, ◌++◌, ◌+◌, ◌<◌,
 use Rattle.std.proofs.lemmas.Bool.{both_ways, eqb-true}
 use Rattle.bloom_parts.specs.Content.{bit_is_on}
 use Rattle.bloom_parts.specs.Places.{place}
-use Rattle.bloom_steps.specs.declared.steps.vocabulary.Call.{Call}
+use Rattle.bloom_steps.specs.Vocabulary.{Call, Answer, Running, Step}
 use Rattle.bloom_steps.specs.Plans.{EachPair, EachWord, LooksAt, Plan, TurnsOn, plan_of}
-use Rattle.bloom_steps.specs.declared.steps.vocabulary.End.TheVariants.{Answer, Running}
-use Rattle.bloom_steps.specs.declared.steps.vocabulary.Step.{Step}
 use Rattle.bloom_steps.specs.declared.steps.machine.Machine.{Machine}
 use Rattle.bloom_steps.specs.Standing.{HoldsOther, IsAtPlace, IsPlaced, Keeps, StandsAt, answer_by, asks, end_by, end_of}
 use Rattle.bloom_steps.specs.Plans.{most_steps}

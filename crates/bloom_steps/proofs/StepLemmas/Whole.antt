@@ -1,9 +1,8 @@
 -- Whole scripts and beginnings: a beginning runs on, a whole script has ended, so no list is both.
 use Rattle.std.proofs.Common.{[], ◌+◌, ◌-◌, ◌∙◌, ◌∷◌, ◌≡◌, ◌≢◌, ◌≤◌, List, None, Some, ap, arith, length, length-append, refl, slice_get, suc, zero, ℕ}
 use Rattle.std.proofs.lemmas.Option.{none-some, same_Some, slice_get_within}
-use Rattle.bloom_steps.specs.declared.steps.vocabulary.Call.{Call}
+use Rattle.bloom_steps.specs.Vocabulary.{Call, Running}
 use Rattle.bloom_steps.specs.Plans.{EachPair, EachWord, LooksAt, Plan, TurnsOn, plan_of}
-use Rattle.bloom_steps.specs.declared.steps.vocabulary.End.TheVariants.{Running}
 use Rattle.bloom_steps.specs.Scripts.{IsBeginning, IsLastEnd, IsScript, Taken, answer_of, answer_of_end, HasCount}
 use Rattle.bloom_steps.proofs.StepLemmas.Members.{member-front, some_member}
 
