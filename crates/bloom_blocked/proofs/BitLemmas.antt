@@ -7,7 +7,7 @@ use Rattle.std.proofs.Math.Bool.{or-false, and-true, and-false}
 use Rattle.std.specs.Int.Bits.{or_zero_r}
 use Rattle.std.specs.Int.{bit_at}
 use Rattle.bloom_parts.specs.Content.{bit_is_on, content}
-use Rattle.bloom_parts.proofs.PublishedLemmas.{content-set}
+use Rattle.bloom_parts.proofs.PublishedLemmas.{bits-next, content-set}
 
 -- a bit of a word that is set where it is to be, and the others
 pub word-where : (word i : ℕ) (on : Bool) (mask : ℕ) → i < 64
@@ -22,29 +22,6 @@ word-where word i false mask within is p =
     ap (λ w. content (w ∷ []) p) (ap (bit_or word) is ∙ or_zero_r word)
     ∙ sym (or-false (content (word ∷ []) p))
     ∙ ap (λ b. content (word ∷ []) p || b) (sym (and-false (p == i)))
-
--- a set of bits below one number, with that number's own bit, is that below the next
-pub bits-next : (F : ℕ → Bool) (old new : ℕ → Bool) (i : ℕ)
-    → ((p : ℕ) → old p ≡ (nat_lt p i && F p))
-    → ((p : ℕ) → new p ≡ (old p || p == i && F i))
-    → (p : ℕ) → new p ≡ (nat_lt p (i + 1) && F p)
-bits-next F old new i before step p =
-    step p ∙ ap (λ b. b || p == i && F i) (before p) ∙ elim (cases_lt p i) [
-      | inl earlier ↦
-          rw (
-            lt-ltb p i earlier,
-            lt-ltb p (i + 1) (omega (arith, earlier)),
-            ne_eqb p i (λ e. omega (arith, e, earlier)),
-          ) (or-false (F p))
-      | inr late ↦ elim (cases_eq p i) [
-        | inl here ↦
-            rw (le-ltb p i late, lt-ltb p (i + 1) (omega (arith, here)), eq-eqb p i here)
-            (ap F (sym here))
-        | inr apart ↦
-            let past : i + 1 ≤ p = omega (arith, lt_of_le-ne late (λ e. apart (sym e))) in
-            rw (le-ltb p i late, le-ltb p (i + 1) past, ne_eqb p i apart) refl
-      ]
-    ]
 
 -- whether a bit is set in a word that stands in a bit set by itself
 word-alone : (v q : ℕ) → q < 64 → content (v ∷ []) q ≡ bit_is_on v q

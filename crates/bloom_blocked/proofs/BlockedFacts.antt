@@ -6,13 +6,13 @@ use Rattle.std.proofs.lemmas.Bool.{both_ways, le-ltb}
 use Rattle.bloom_parts.specs.Chain.{chain}
 use Rattle.bloom_parts.specs.Content.{content}
 use Rattle.bloom_parts.specs.Places.{positions, are_in}
-use Rattle.bloom_parts.proofs.PublishedLemmas.{content-zeros, content-past}
+use Rattle.bloom_parts.proofs.PublishedLemmas.{bits-next, content-zeros, content-past}
 use Rattle.bloom_plain.specs.Filter.{Filter}
 use Rattle.bloom_plain.proofs.CaseLemmas.{alike_below, content-case}
 use Rattle.bloom_blocked.specs.Lines.{line_positions, are_in_line}
 use Rattle.bloom_blocked.specs.Many.{positions_in_lines, all_are_in_lines, lines_after, TellsFoundInLines, TellsNewInLines}
 use Rattle.bloom_blocked.specs.Blocked.{num_lines_of, contains_in_line, InsertsInLine, InsertsAllInLines, InsertsItemsInLines}
-use Rattle.bloom_blocked.proofs.BitLemmas.{bits-next, word-where}
+use Rattle.bloom_blocked.proofs.BitLemmas.{word-where}
 use Rattle.bloom_blocked.proofs.PositionLemmas.{line_range_law}
 
 -- a filter of one line of these words, and of a hasher that is told apart by a number

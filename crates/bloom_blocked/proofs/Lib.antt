@@ -15,7 +15,6 @@ mod LineScriptFacts
 mod LineStepFacts
 mod LiveScriptFacts
 mod LiveScriptLemmas
-mod ManyLemmas
 mod MovedLemmas
 mod PositionLemmas
 mod SharedBlockedFacts

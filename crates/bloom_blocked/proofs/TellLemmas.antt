@@ -6,11 +6,10 @@ use Rattle.std.proofs.Math.Bool.{or-false, or_assoc}
 use Rattle.std.proofs.lemmas.List.{get_or-take, get_or-drop, length-take-le, take_more}
 use Rattle.std.proofs.lemmas.List.Folds.{list_any-append}
 use Rattle.bloom_parts.specs.Content.{content}
-use Rattle.bloom_parts.proofs.PublishedLemmas.{content-zeros}
+use Rattle.bloom_parts.proofs.PublishedLemmas.{bits-next, content-zeros, many-stretch}
 use Rattle.bloom_blocked.specs.Lines.{line_positions, are_in_line}
 use Rattle.bloom_blocked.specs.Many.{positions_in_lines, all_are_in_lines, lines_after, TellsFoundInLines, TellsNewInLines}
-use Rattle.bloom_blocked.proofs.BitLemmas.{bits-next, bits-word, word-where}
-use Rattle.bloom_blocked.proofs.ManyLemmas.{many-stretch}
+use Rattle.bloom_blocked.proofs.BitLemmas.{bits-word, word-where}
 use Rattle.bloom_blocked.proofs.PositionLemmas.{line-greater}
 
 -- the first of the first numbers of a list
@@ -62,7 +61,7 @@ module _ (hashes : List ℕ) (at n v : ℕ) (fits : at + n ≤ length hashes) wh
       ≡ lines_after lines k A hashes (at + q) p
   after-part lines k A B q within before =
       let upto : q ≡ at + q - at = omega arith in
-      many-stretch lines k A B (lines_after lines k B (take n (drop at hashes)) q) hashes at
+      many-stretch (line_positions lines k) A B (lines_after lines k B (take n (drop at hashes)) q) hashes at
       (at + q) (omega arith) before
       (λ p. ap (λ l. B p || positions_in_lines lines k l p)
       (take-of-take q n (drop at hashes) within ∙ ap (λ j. take j (drop at hashes)) upto))
@@ -99,22 +98,6 @@ none-new lines k A hashes all i =
           rw (lt-ltb i (length hashes) within) (ap not held)
       | inr past ↦ rw (le-ltb i (length hashes) past) refl
     ])
-
--- one more hash is inserted into what the first of these hashes set
-pub after-next : (lines k : ℕ) (A B C : ℕ → Bool) (hashes : List ℕ) (i : ℕ) → i < length hashes
-    → ((p : ℕ) → B p ≡ lines_after lines k A hashes i p)
-    → ((p : ℕ) → C p ≡ (B p || line_positions lines k (slice_index hashes i) p))
-    → (p : ℕ) → C p ≡ lines_after lines k A hashes (i + 1) p
-after-next lines k A B C hashes i within before step p =
-    let on : ℕ → Bool = λ hash. line_positions lines k hash p in
-    let first = take i hashes in
-    let last = slice_index hashes i ∷ [] in
-    step p
-    ∙ ap (λ b. b || on (slice_index hashes i)) (before p)
-    ∙ or_assoc (A p) (list_any on first) (on (slice_index hashes i))
-    ∙ ap (λ b. A p || (list_any on first || b)) (sym (or-false (on (slice_index hashes i))))
-    ∙ ap (λ b. A p || b)
-    (sym (list_any-append on first last) ∙ ap (list_any on) (sym (take_more hashes i 0 within)))
 
 -- one more hash is reported: its bit is whether it wasn't contained after those before it
 pub tells-next : (lines k : ℕ) (A B : ℕ → Bool) (hashes : List ℕ) (i fresh mask : ℕ) (was : Bool)

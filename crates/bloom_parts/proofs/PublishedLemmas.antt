@@ -23,6 +23,9 @@ pub use Rattle.bloom_parts.proofs.SetLemmas.{content-zeros}
 -- two lists of deciders, one after the other, and the decisions that they come to
 pub use Rattle.bloom_parts.proofs.DeciderLemmas.{last_decision-append, state-append}
 pub use Rattle.bloom_parts.proofs.DeciderLemmas.{unwrap_or-option_or}
+-- the positions of many hashes, in a filter of any kind, and bit sets that are filled bit by bit
+pub use Rattle.bloom_parts.proofs.ManyLemmas.{many-contained, many-next, many-stretch}
+pub use Rattle.bloom_parts.proofs.BitSetLemmas.{bits-next}
 -- bytes and more bytes are bytes
 pub use Rattle.bloom_parts.proofs.BufferLemmas.{AreBytes-append}
 -- a word behind others adds its own bits, and no more positions are set than there are

@@ -1,9 +1,9 @@
 use Rattle.std.proofs.Common.{◌/◌, ◌||◌, ◌&&◌, ◌==◌, ◌∷◌, [], ℕ, Bool, length, slice_index, ap, sym, ◌∙◌, arith, rules}
 use Rattle.std.proofs.lemmas.Bool.{le-ltb}
 use Rattle.bloom_parts.specs.Content.{content}
-use Rattle.bloom_parts.proofs.PublishedLemmas.{content-zeros}
+use Rattle.bloom_parts.proofs.PublishedLemmas.{bits-next, content-zeros}
 use Rattle.bloom_blocked.specs.Lines.{are_in_line}
-use Rattle.bloom_blocked.proofs.BitLemmas.{bits-next, word-where}
+use Rattle.bloom_blocked.proofs.BitLemmas.{word-where}
 use Rattle.bloom_blocked.proofs.many.found_bits.Goals as goal
 
 pub looks-init : goal.looks-init

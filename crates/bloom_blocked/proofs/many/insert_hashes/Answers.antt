@@ -1,7 +1,8 @@
 use Rattle.std.proofs.Common.{◌≡◌, ◌+◌, ◌*◌, ◌/◌, length, ◌∙◌, arith}
 use Rattle.std.proofs.Math.Seq.{take-length}
 use Rattle.bloom_parts.specs.Content.{content}
-use Rattle.bloom_blocked.proofs.ManyLemmas.{many-stretch}
+use Rattle.bloom_parts.proofs.PublishedLemmas.{many-stretch}
+use Rattle.bloom_blocked.specs.Lines.{line_positions}
 use Rattle.bloom_blocked.proofs.many.insert_hashes.Goals as goal
 
 pub turns-preserved : goal.turns-preserved
@@ -10,7 +11,7 @@ turns-preserved c =
     let next : 64 * (c.turns.turn + 1) ≡ at + 64 = omega arith in
     record {
       content = rw (next)
-          (many-stretch _ _ (content c.args.words.now) (content c.turns.words) _
+          (many-stretch (line_positions _ _) (content c.args.words.now) (content c.turns.words) _
           c.args.hashes.now at (at + 64) (omega arith) c.turns.invariant.content
           (rw (← c.turns.invariant.shape) c.insert_unless_full-look_up.ensures.content));
       shape = c.insert_unless_full-look_up.ensures.shape ∙ c.turns.invariant.shape;
@@ -20,7 +21,7 @@ pub returns-clause-content : goal.returns-clause-content
 returns-clause-content c =
     let hashes = c.args.hashes.now in
     let all : c.turns.turn ≡ length hashes / 64 = omega arith in
-    let whole = many-stretch (length c.args.words.now / 8) c.args.num_hashes
+    let whole = many-stretch (line_positions (length c.args.words.now / 8) c.args.num_hashes)
     (content c.args.words.now) (content c.turns.words) _ hashes
     (64 * (length hashes / 64)) (length hashes) (omega arith)
     (rw (all) at c.turns.invariant.content)

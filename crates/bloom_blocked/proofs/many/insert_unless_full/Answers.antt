@@ -1,9 +1,14 @@
 use Rattle.std.proofs.Common.{◌/◌, length, sym, ◌∙◌}
 use Rattle.bloom_parts.specs.Content.{content}
-use Rattle.bloom_blocked.proofs.ManyLemmas.{many-contained}
+use Rattle.bloom_parts.proofs.PublishedLemmas.{many-contained}
+use Rattle.bloom_blocked.specs.Lines.{are_in_line, line_positions}
+use Rattle.bloom_blocked.proofs.PositionLemmas.{line_subset_law}
 use Rattle.bloom_blocked.proofs.many.insert_unless_full.Goals as goal
 
 pub returns-then-all_are_set-clause-content : goal.returns-then-all_are_set-clause-content
 returns-then-all_are_set-clause-content c = λ p.
-    many-contained (length c.args.words.now / 8) c.args.num_hashes (content c.args.words.now) p
-    c.args.hashes.now (sym c.all_are_set.ensures ∙ c.if-all_are_set.true)
+    let lines = length c.args.words.now / 8 in
+    let k = c.args.num_hashes in
+    let A = content c.args.words.now in
+    many-contained (line_positions lines k) (λ hash. are_in_line lines k hash A) A p
+    c.args.hashes.now (λ hash all. (line_subset_law lines k hash A).0 all p) (sym c.all_are_set.ensures ∙ c.if-all_are_set.true)

@@ -2,10 +2,10 @@ use Rattle.std.proofs.Common.{◌/◌, ◌&&◌, ℕ, Bool, not, length, slice_i
 use Rattle.std.proofs.lemmas.Bool.{le-ltb}
 use Rattle.std.proofs.Math.Bool.{or-false}
 use Rattle.bloom_parts.specs.Content.{content}
-use Rattle.bloom_parts.proofs.PublishedLemmas.{content-zeros}
-use Rattle.bloom_blocked.specs.Lines.{are_in_line}
+use Rattle.bloom_parts.proofs.PublishedLemmas.{content-zeros, many-next}
+use Rattle.bloom_blocked.specs.Lines.{are_in_line, line_positions}
 use Rattle.bloom_blocked.specs.Many.{lines_after}
-use Rattle.bloom_blocked.proofs.TellLemmas.{after-next, tells-next}
+use Rattle.bloom_blocked.proofs.TellLemmas.{tells-next}
 use Rattle.bloom_blocked.proofs.many.telling.insert_each_telling.Goals as goal
 
 pub hashes-init : goal.hashes-init
@@ -30,7 +30,7 @@ hashes-preserved c =
       bits = tells-next _ _ _ (content c.hashes.words) c.args.hashes.now c.hashes.hash-index _ _ _
           (omega (arith, early, c.requires.few)) before.bits before.content did.reply
           (rw (before.at) at c.mask_where-fresh.ensures);
-      content = after-next _ _ _ (content c.hashes.words) _ c.args.hashes.now _ early
+      content = many-next (line_positions _ _) _ (content c.hashes.words) _ c.args.hashes.now _ early
           before.content did.content;
       shape = search rules;
       at = search rules;

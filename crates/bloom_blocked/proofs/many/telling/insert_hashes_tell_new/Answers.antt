@@ -1,7 +1,8 @@
 use Rattle.std.proofs.Common.{◌≡◌, ◌≤◌, ◌*◌, ◌+◌, length, min, arith, rules}
 use Rattle.std.proofs.Math.Seq.{take-length}
 use Rattle.bloom_parts.specs.Content.{content}
-use Rattle.bloom_blocked.proofs.ManyLemmas.{many-stretch}
+use Rattle.bloom_parts.proofs.PublishedLemmas.{many-stretch}
+use Rattle.bloom_blocked.specs.Lines.{line_positions}
 use Rattle.bloom_blocked.proofs.TellLemmas.{tells-turn}
 use Rattle.bloom_blocked.proofs.many.telling.insert_hashes_tell_new.Goals as goal
 
@@ -24,7 +25,7 @@ turns-preserved c =
           (omega (arith, shape, c.requires.room, early, turns)) ended more
           (content c.turns.words) c.turns.invariant.bits before did.fresh;
       content = rw (next)
-          (many-stretch _ _ _ (content c.turns.words) _ hashes at end
+          (many-stretch (line_positions _ _) _ (content c.turns.words) _ hashes at end
           (omega (arith, ended, more)) before did.content);
       words_shape = did.shape;
       fresh_shape = search rules;
