@@ -61,8 +61,8 @@ module _ (hashes : List ℕ) (at n v : ℕ) (fits : at + n ≤ length hashes) wh
       ≡ lines_after lines k A hashes (at + q) p
   after-part lines k A B q within before =
       let upto : q ≡ at + q - at = omega arith in
-      many-stretch (line_positions lines k) A B (lines_after lines k B (take n (drop at hashes)) q) hashes at
-      (at + q) (omega arith) before
+      many-stretch (line_positions lines k) A B
+      (lines_after lines k B (take n (drop at hashes)) q) hashes at (at + q) (omega arith) before
       (λ p. ap (λ l. B p || positions_in_lines lines k l p)
       (take-of-take q n (drop at hashes) within ∙ ap (λ j. take j (drop at hashes)) upto))
 

@@ -11,4 +11,5 @@ returns-then-all_are_set-clause-content c = λ p.
     let k = c.args.num_hashes in
     let A = content c.args.words.now in
     many-contained (line_positions lines k) (λ hash. are_in_line lines k hash A) A p
-    c.args.hashes.now (λ hash all. (line_subset_law lines k hash A).0 all p) (sym c.all_are_set.ensures ∙ c.if-all_are_set.true)
+    c.args.hashes.now (λ hash all. (line_subset_law lines k hash A).0 all p)
+    (sym c.all_are_set.ensures ∙ c.if-all_are_set.true)

@@ -30,8 +30,8 @@ hashes-preserved c =
       bits = tells-next _ _ _ (content c.hashes.words) c.args.hashes.now c.hashes.hash-index _ _ _
           (omega (arith, early, c.requires.few)) before.bits before.content did.reply
           (rw (before.at) at c.mask_where-fresh.ensures);
-      content = many-next (line_positions _ _) _ (content c.hashes.words) _ c.args.hashes.now _ early
-          before.content did.content;
+      content = many-next (line_positions _ _) _ (content c.hashes.words) _ c.args.hashes.now _
+          early before.content did.content;
       shape = search rules;
       at = search rules;
     }

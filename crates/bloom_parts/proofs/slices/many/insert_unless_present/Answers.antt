@@ -11,4 +11,5 @@ returns-else-not-all_are_set-clause-content c = λ p.
     let k = c.args.num_hashes in
     let A = content c.args.words.now in
     many-contained (positions n k) (λ hash. are_in n k hash A) A p c.args.hashes.now
-    (λ hash all. part-from n k hash A all p) (sym c.all_are_set.ensures ∙ c.if-not-all_are_set.false)
+    (λ hash all. part-from n k hash A all p)
+    (sym c.all_are_set.ensures ∙ c.if-not-all_are_set.false)
