@@ -1,138 +1,173 @@
--- The ends of brackets at values from outside: a wrong constant fails here.
-use Rattle.std.proofs.Common.{◌≡◌, ◌^◌, refl, arith}
-use lib.Count.{count_leading_zeros, ones}
-use Rattle.bloom_parts.specs.Powers.{rounded_power, lower_power_of, upper_power_of, products_of}
-use Rattle.bloom_parts.specs.Brackets.{density_low, density_high, rate_low, rate_high}
+-- Brackets of densities and of rates at values from outside: for each definition that public
+-- clauses cite a case that holds and cases as near as can be that don't.
+use Rattle.std.proofs.Common.{◌≡◌, ◌+◌, ◌-◌, ◌^◌, refl, arith, lit<, lit≤}
+use Rattle.bloom_parts.specs.declared.math.bracket.Bracket.{Bracket}
+use Rattle.bloom_parts.specs.Brackets.{low_of, high_of, width_of, Holds, HoldsDensity, HoldsRate, density_low, density_high, rate_low, rate_high}
+use Rattle.bloom_parts.specs.Counts.{count_on}
+use Rattle.bloom_parts.specs.Draws.{sum_below, sum_draws, is_drawn, all_in}
+use Rattle.bloom_parts.specs.FalsePositives.{HoldsFalsePositives, HoldsPositives, false_pos_high, false_pos_width, IsCapacity, positives_low, positives_high, BoundsPositives, BoundsEither}
+use Rattle.bloom_parts.specs.Powers.{rounded_power, lower_power_of, upper_power_of}
+use Rattle.bloom_parts.proofs.Cases.{only, between, exactly, third}
+use Rattle.bloom_parts.proofs.RateBoundLemmas.{either-between, positives-between}
 
--- the density of 64 bits after one was set is exactly 1 / 64
-density_low-one : density_low 64 1 ≡ 144115188075855872
+ends-third : (low_of third ≡ 3074457345618258602) × (high_of third ≡ 3074457345618258603)
+    × (width_of third ≡ 1)
+ends-third = (refl, refl, refl)
+
+-- a third lies between two units, and on neither
+holds-cases : Holds third 1 3
+    × (Holds (exactly 3074457345618258602 (lit≤ tt)) 1 3 → ⊥)
+    × (Holds (exactly 3074457345618258603 (lit≤ tt)) 1 3 → ⊥)
+holds-cases = (
+  record { at_least = lit≤ tt; at_most = lit≤ tt },
+  λ is. omega (arith, is.at_most),
+  λ is. omega (arith, is.at_least),
+)
+
+-- the share of 64 bits after two were set is 127 / 4096
+holds_density-cases : HoldsDensity (exactly 285978576338026496 (lit≤ tt)) 64 2
+    × (HoldsDensity (exactly 285978576338026497 (lit≤ tt)) 64 2 → ⊥)
+    × (HoldsDensity (exactly 285978576338026495 (lit≤ tt)) 64 2 → ⊥)
+holds_density-cases = (
+  record { at_least = lit≤ tt; at_most = lit≤ tt },
+  λ is. omega (arith, is.at_least),
+  λ is. omega (arith, is.at_most),
+)
+
+-- the rate of two hashes where two bits of 64 were set is the square of 127 / 4096, and where one
+-- was it is the square of 1 / 64
+holds_rate-cases : HoldsRate (exactly 8867011522199552 (lit≤ tt)) 64 2 2
+    × (HoldsRate (exactly 8867011522199553 (lit≤ tt)) 64 2 2 → ⊥)
+    × (HoldsRate (exactly 8867011522199551 (lit≤ tt)) 64 2 2 → ⊥)
+    × HoldsRate (exactly 2251799813685248 (lit≤ tt)) 64 1 2
+holds_rate-cases = (
+  record { at_least = lit≤ tt; at_most = lit≤ tt },
+  λ is. omega (arith, is.at_least),
+  λ is. omega (arith, is.at_most),
+  record { at_least = lit≤ tt; at_most = lit≤ tt },
+)
+
+-- two of 64 bits, one of three, and many, where other ways to round come out elsewhere
+density-ends : (density_low 64 2 ≡ 285978576338026496) × (density_high 64 2 ≡ 285978576338026496)
+    × (density_low 3 1 ≡ 3074457345618258602) × (density_high 3 1 ≡ 3074457345618258603)
+    × (density_low 1000 1001 ≡ 5835371729641738664)
+    × (density_high 1000 1001 ≡ 5835371729641739423)
 unfolding rounded_power
-density_low-one = refl
+density-ends = (refl, refl, refl, refl, refl, refl)
 
-density_high-one : density_high 64 1 ≡ 144115188075855872
+-- seven hashes among 1024 bits after a hundred items
+rate-ends : (rate_low 1024 700 7 ≡ 67513609598153215) × (rate_high 1024 700 7 ≡ 67513609598153226)
 unfolding rounded_power
-density_high-one = refl
+rate-ends = (refl, refl)
 
--- the square of 1 / 64
-lower_power-square : lower_power_of 144115188075855872 2 ≡ 2251799813685248
+-- the power to 0 is one whole, and the last of the 128 binary digits of an exponent counts
+power-ends : (lower_power_of 0 0 ≡ 2 ^ 63) × (upper_power_of 0 0 ≡ 2 ^ 63)
+    × (lower_power_of (2 ^ 62) (2 ^ 127) ≡ 0) × (upper_power_of (2 ^ 62) (2 ^ 127) ≡ 1)
 unfolding rounded_power
-lower_power-square = refl
+power-ends = (refl, refl, refl, refl)
 
-upper_power-square : upper_power_of 144115188075855872 2 ≡ 2251799813685248
+-- the rate of two draws among two positions and a query of two is 10 / 16
+holds_false_positives-cases : HoldsFalsePositives (exactly 5764607523034234880 (lit≤ tt)) 2 2 2
+    × (HoldsFalsePositives (exactly 5764607523034234881 (lit≤ tt)) 2 2 2 → ⊥)
+    × (HoldsFalsePositives (exactly 5764607523034234879 (lit≤ tt)) 2 2 2 → ⊥)
+unfolding sum_below sum_draws is_drawn all_in
+holds_false_positives-cases = (
+  record { at_least = lit≤ tt; at_most = lit≤ tt },
+  λ is. omega (arith, is.at_least),
+  λ is. omega (arith, is.at_most),
+)
+
+-- a set of one of four positions finds one of the 16 queries of two
+holds_positives-cases : HoldsPositives (exactly 576460752303423488 (lit≤ tt)) 4 2 (only 3)
+    × (HoldsPositives (exactly 576460752303423489 (lit≤ tt)) 4 2 (only 3) → ⊥)
+    × (HoldsPositives (exactly 576460752303423487 (lit≤ tt)) 4 2 (only 3) → ⊥)
+unfolding sum_below sum_draws all_in
+holds_positives-cases = (
+  record { at_least = lit≤ tt; at_most = lit≤ tt },
+  λ is. omega (arith, is.at_least),
+  λ is. omega (arith, is.at_most),
+)
+
+-- the upper ends of the rates whose lower ends are those of the classical formula
+false_pos_high-cases : (false_pos_high 64 0 3 ≡ 0) × (false_pos_high 64 2 2 ≡ 13725461381120000)
+    × (false_pos_high 1024 700 7 ≡ 68936744759523058)
+    × (false_pos_high 1000 1001 13 ≡ 25110054965591681)
 unfolding rounded_power
-upper_power-square = refl
+false_pos_high-cases = (refl, refl, refl, refl)
 
--- the density of 64 bits after two were set
-density_low-two : density_low 64 2 ≡ 285978576338026496
+false_pos_width-case : false_pos_width 1024 700 7 ≡ 189151184349570632
+false_pos_width-case = refl
+
+-- the ends for twelve and for thirteen items of four hashes in 64 bits
+ends-of_items : (false_pos_high 64 48 4 ≡ 792596453736758122)
+    × (false_pos_high 64 52 4 ≡ 969688728801883019)
 unfolding rounded_power
-density_low-two = refl
+ends-of_items = (refl, refl)
 
-density_high-two : density_high 64 2 ≡ 285978576338026496
+-- at a rate of 1 / 10 these bits take twelve items, and neither eleven nor thirteen
+is_capacity-cases : IsCapacity 64 4 1 10 12
+    × (IsCapacity 64 4 1 10 11 → ⊥)
+    × (IsCapacity 64 4 1 10 13 → ⊥)
+is_capacity-cases = (
+  record {
+    takes = rw ends-of_items.0 (lit≤ tt);
+    last = λ _ more. omega (arith, rw ends-of_items.1 at more);
+  },
+  λ is. is.last (lit< tt) (rw ends-of_items.0 (lit≤ tt)),
+  λ is. omega (arith, rw ends-of_items.1 at is.takes),
+)
+
+-- two thirds, and the power to seven of a hundred of 192, rounded either way
+positives-ends : (positives_low 3 1 2 ≡ 6148914691236517205)
+    × (positives_high 3 1 2 ≡ 6148914691236517206)
+    × (positives_low 192 7 100 ≡ 95891723822588019)
+    × (positives_high 192 7 100 ≡ 95891723822588021)
 unfolding rounded_power
-density_high-two = refl
+positives-ends = (refl, refl, refl, refl)
 
--- the density of three bits after one was set is a third, which lies between two units
-density_low-third : density_low 3 1 ≡ 3074457345618258602
+-- sets of two of three positions answer two thirds of the queries of one
+abbrev two_thirds : Bracket
+two_thirds = between 6148914691236517205 6148914691236517206 (lit≤ tt) (lit≤ tt)
+
+bounds_positives-cases : BoundsPositives 3 1 2 two_thirds
+    × (BoundsPositives 3 1 2 (between 6148914691236517204 6148914691236517206 (lit≤ tt) (lit≤ tt))
+    → ⊥)
+    × (BoundsPositives 3 1 2 (between 6148914691236517205 6148914691236517207 (lit≤ tt) (lit≤ tt))
+    → ⊥)
 unfolding rounded_power
-density_low-third = refl
+bounds_positives-cases = (
+  record {
+    holds =
+        positives-between two_thirds 3 1 2 (lit< tt)
+        (record { at_least = lit≤ tt; at_most = lit≤ tt });
+    low = refl;
+    high = refl;
+    width = lit≤ tt;
+  },
+  λ is. omega (arith, is.low),
+  λ is. omega (arith, is.high),
+)
 
-density_high-third : density_high 3 1 ≡ 3074457345618258603
-unfolding rounded_power
-density_high-third = refl
+-- a half of the queries passes either test, and so between a half and all pass one of both
+abbrev half : Bracket
+half = exactly (2 ^ 62) (lit≤ tt)
 
--- the density of 64 bits after none was set is 0
-density_low-none : density_low 64 0 ≡ 0
-unfolding rounded_power
-density_low-none = refl
-
-density_high-none : density_high 64 0 ≡ 0
-unfolding rounded_power
-density_high-none = refl
-
--- the density of a single bit after it was set is one whole
-density_low-whole : density_low 1 1 ≡ 9223372036854775808
-unfolding rounded_power
-density_low-whole = refl
-
-density_high-whole : density_high 1 1 ≡ 9223372036854775808
-unfolding rounded_power
-density_high-whole = refl
-
--- the density of the greatest number of bits after one was set is below one unit
-density_low-wide : density_low 18446744073709551615 1 ≡ 0
-unfolding rounded_power
-density_low-wide = refl
-
-density_high-wide : density_high 18446744073709551615 1 ≡ 1
-unfolding rounded_power
-density_high-wide = refl
-
--- the power to 0 is one whole
-lower_power-none : lower_power_of 0 0 ≡ 9223372036854775808
-unfolding rounded_power
-lower_power-none = refl
-
-upper_power-none : upper_power_of 0 0 ≡ 9223372036854775808
-unfolding rounded_power
-upper_power-none = refl
-
--- the power to 0 takes no product, and that to 5, whose digits are 101, takes five
-products-none : products_of 0 ≡ 0
-unfolding count_leading_zeros ones
-products-none = refl
-
-products-five : products_of 5 ≡ 5
-unfolding count_leading_zeros ones
-products-five = refl
-
--- that to 4, whose digits are 100, takes four, and not two for each digit
-products-four : products_of 4 ≡ 4
-unfolding count_leading_zeros ones
-products-four = refl
-
-products-four-near : products_of 4 ≡ 6 → ⊥
-products-four-near six = absurd (omega (arith, six, products-four))
-
--- the rate of 64 bits and two hashes after one item
-rate_low-one : rate_low 64 2 2 ≡ 8867011522199552
-unfolding rounded_power
-rate_low-one = refl
-
-rate_high-one : rate_high 64 2 2 ≡ 8867011522199552
-unfolding rounded_power
-rate_high-one = refl
-
--- seven hashes among 1024 bits after a hundred items, where other ways to round come out elsewhere
-density_low-many : density_low 1024 700 ≡ 4568972320092213995
-unfolding rounded_power
-density_low-many = refl
-
-density_high-many : density_high 1024 700 ≡ 4568972320092214093
-unfolding rounded_power
-density_high-many = refl
-
-rate_low-many : rate_low 1024 700 7 ≡ 67513609598153215
-unfolding rounded_power
-rate_low-many = refl
-
-rate_high-many : rate_high 1024 700 7 ≡ 67513609598153226
-unfolding rounded_power
-rate_high-many = refl
-
--- thirteen hashes among 1000 bits after 77 items
-density_low-thousand : density_low 1000 1001 ≡ 5835371729641738664
-unfolding rounded_power
-density_low-thousand = refl
-
-density_high-thousand : density_high 1000 1001 ≡ 5835371729641739423
-unfolding rounded_power
-density_high-thousand = refl
-
--- the last of the 128 binary digits of an exponent counts
-lower_power-last : lower_power_of (2 ^ 62) (2 ^ 127) ≡ 0
-unfolding rounded_power
-lower_power-last = refl
-
-upper_power-last : upper_power_of (2 ^ 62) (2 ^ 127) ≡ 1
-unfolding rounded_power
-upper_power-last = refl
+bounds_either-cases : BoundsEither half half (between (2 ^ 62) (2 ^ 63) (lit≤ tt) (lit≤ tt))
+    × (BoundsEither half half (between (2 ^ 62) (2 ^ 63 - 1) (lit≤ tt) (lit≤ tt)) → ⊥)
+    × (BoundsEither half half (between (2 ^ 62 + 1) (2 ^ 63) (lit≤ tt) (lit≤ tt)) → ⊥)
+    × (BoundsEither half half (between 0 (2 ^ 63) (lit≤ tt) (lit≤ tt)) → ⊥)
+unfolding count_on
+bounds_either-cases = (
+  record {
+    holds =
+        either-between half half (between (2 ^ 62) (2 ^ 63) (lit≤ tt) (lit≤ tt)) refl refl;
+    low = refl;
+    high = refl;
+  },
+  λ is. omega (arith, (is.holds 2 (only 0) (only 1) one one).at_most),
+  λ is. omega (arith, (is.holds 2 (only 0) (only 0) one one).at_least),
+  λ is. omega (arith, is.low),
+)
+  where
+    one : Holds half 1 2
+    one = record { at_least = lit≤ tt; at_most = lit≤ tt }

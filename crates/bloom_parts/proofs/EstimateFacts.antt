@@ -1,173 +1,172 @@
--- Estimates of items at small numbers, by hand: of 64 bits, 1 is expected to be set after one was
--- set, 127 / 64 after two, and 12097 / 4096 after three. Beside each case that holds stands one
--- that differs in one thing and doesn't hold.
-use Rattle.std.proofs.Common.{◌≡◌, ℕ, ◌-◌, ◌*◌, ◌^◌, ◌<◌, ◌≤◌, Option, None, Some, IfSome, refl, sym, ap, arith, subst, unwrap_or, lit<, lit≤}
+-- Estimates at small numbers, by hand: of 64 bits and one hash 1 is expected to be set after one
+-- item, and 127 / 64 after two. For each definition that public clauses cite a case that holds, and
+-- cases as near as can be that don't.
+use Rattle.std.proofs.Common.{◌≡◌, ◌-◌, ◌*◌, ◌^◌, ◌<◌, ℕ, None, Some, refl, sym, ◌∙◌, ap, arith, unwrap_or, lit<, lit≤}
+use Rattle.std.proofs.Math.Nat.{le_refl}
 use Rattle.std.proofs.lemmas.Option.{none-some}
+use Rattle.bloom_parts.specs.Alike.{HoldsItems, IsCommon, IsPartOf, EstimatesEach, EstimatesCommon, EstimatesLikeness, common_least, part_low}
+use Rattle.bloom_parts.specs.Estimates.{EstimatesItems, DensityLaw, least_of, most_of}
 use Rattle.bloom_parts.specs.Powers.{rounded_power}
-use Rattle.bloom_parts.specs.Estimates.{IsAtMost, IsAtLeast, IsBelow, IsAbove, IsEstimate, IsTight, IsNear, EstimatesItems, DensityLaw, least_of, most_of}
-use Rattle.bloom_parts.specs.declared.math.estimate.Estimate.{Estimate}
+use Rattle.bloom_parts.proofs.Cases.{between, exactly, third, from_to, just, from}
 use Rattle.bloom_parts.proofs.EstimateLemmas.{is-estimate}
 
--- two bounds
-abbrev pub from_to : (low high : ℕ) → low ≤ high → Estimate
-from_to low high ordered = record {
-  low = low;
-  high = Some high;
-  ordered = λ x is. subst (λ (most : Option ℕ). IfSome most (λ it. low ≤ it)) is ordered;
-}
+ends-one_to_two : (least_of (from_to 1 2 (lit≤ tt)) ≡ 1)
+    × (most_of (from_to 1 2 (lit≤ tt)) ≡ Some 2)
+    × (most_of (from 1) ≡ None)
+ends-one_to_two = (refl, refl, refl)
 
--- a lower bound alone
-abbrev pub from : ℕ → Estimate
-from low = record { low = low; high = None; ordered = λ x is. absurd (none-some x is) }
-
-least-two : least_of (from_to 1 2 (lit≤ tt)) ≡ 1
-least-two = refl
-
-most-two : most_of (from_to 1 2 (lit≤ tt)) ≡ Some 2
-most-two = refl
-
-most-none : most_of (from 1) ≡ None
-most-none = refl
-
--- after one was set, exactly 1 of 64 is expected
-at_most-one : IsAtMost 64 1 1
-at_most-one = lit≤ tt
-
-at_most-less : IsAtMost 64 1 0 → ⊥
-at_most-less is = omega (arith, is)
-
-at_least-one : IsAtLeast 64 1 1
-at_least-one = lit≤ tt
-
-at_least-more : IsAtLeast 64 1 2 → ⊥
-at_least-more is = omega (arith, is)
-
-below-one : IsBelow 64 1 1 → ⊥
-below-one is = omega (arith, is)
-
-above-one : IsAbove 64 1 1 → ⊥
-above-one is = omega (arith, is)
-
--- after two were set, more than 1 and less than 2
-at_most-two : IsAtMost 64 2 2
-at_most-two = lit≤ tt
-
-at_most-two_less : IsAtMost 64 2 1 → ⊥
-at_most-two_less is = omega (arith, is)
-
-at_least-two : IsAtLeast 64 2 1
-at_least-two = lit≤ tt
-
-at_least-two_more : IsAtLeast 64 2 2 → ⊥
-at_least-two_more is = omega (arith, is)
-
-below-two : IsBelow 64 2 2
-below-two = lit< tt
-
-above-two : IsAbove 64 2 1
-above-two = lit< tt
-
--- after three were set, more than 2 and less than 3
-below-three : IsBelow 64 3 3
-below-three = lit< tt
-
-below-three_less : IsBelow 64 3 2 → ⊥
-below-three_less is = omega (arith, is)
-
-above-three : IsAbove 64 3 2
-above-three = lit< tt
-
-above-three_more : IsAbove 64 3 3 → ⊥
-above-three_more is = omega (arith, is)
-
--- one hash and one bit: one item
-pub estimate-one : IsEstimate 64 1 1 1 (Some 1)
+-- one bit by one hash is one item: no other number of items is as near, no wider bounds are, and an
+-- upper bound is missing only where it has to be
+estimates_items-cases : EstimatesItems 64 1 1 (just 1)
+    × (EstimatesItems 64 1 1 (just 2) → ⊥)
+    × (EstimatesItems 64 1 1 (just 0) → ⊥)
+    × (EstimatesItems 64 1 1 (from 2) → ⊥)
+    × (EstimatesItems 64 1 1 (from_to 0 0 (lit≤ tt)) → ⊥)
+    × (EstimatesItems 64 1 1 (from_to 0 1 (lit≤ tt)) → ⊥)
+    × (EstimatesItems 64 1 1 (from_to 1 2 (lit≤ tt)) → ⊥)
+    × (EstimatesItems 64 1 1 (from_to 0 3 (lit≤ tt)) → ⊥)
+    × (EstimatesItems 64 1 63 (from (2 ^ 64 - 1)) → ⊥)
+    × (EstimatesItems 64 1 0 (from_to 0 1 (lit≤ tt)) → ⊥)
+    × (EstimatesItems 64 1 64 (from_to 0 5 (lit≤ tt)) → ⊥)
 unfolding rounded_power
-estimate-one =
-    is-estimate 64 1 1 (lit< tt) (lit< tt) (lit< tt) 1 (lit< tt) (lit≤ tt) (Some 1)
-    (lit< tt) (lit≤ tt)
+estimates_items-cases = (
+  record {
+    fits =
+        is-estimate 64 1 1 (lit< tt) (lit< tt) (lit< tt) 1 (lit< tt) (lit≤ tt) (Some 1) (lit< tt)
+        (lit≤ tt);
+    tight = record {
+      low_last = λ _. lit< tt;
+      high_first = λ _. lit< tt;
+      none = λ is. absurd (none-some 1 (sym is));
+    };
+    near = lit≤ tt;
+    none = λ is. absurd (omega (arith, is));
+    all = λ is. absurd (omega (arith, is));
+  },
+  λ is. omega (arith, is.fits.at_most),
+  λ is. omega (arith, is.fits.at_least),
+  λ is. omega (arith, is.fits.below 1 (lit< tt)),
+  λ is. omega (arith, is.fits.above 1 (lit< tt)),
+  λ is. omega (arith, is.tight.low_last (lit< tt)),
+  λ is. omega (arith, is.tight.high_first (lit< tt)),
+  λ is. omega (arith, is.near),
+  λ is. omega (arith, is.tight.none refl),
+  λ is. omega (arith, ap (λ most. unwrap_or most 0) (is.none refl).1),
+  λ is. none-some 5 (sym (is.all refl)),
+)
 
--- two hashes and two bits: between one item and two, and with one hash it would be two or more
-estimate-two : IsEstimate 64 2 2 1 (Some 2)
-unfolding rounded_power
-estimate-two =
-    is-estimate 64 2 2 (lit< tt) (lit< tt) (lit< tt) 1 (lit< tt) (lit≤ tt) (Some 2)
-    (lit< tt) (lit≤ tt)
-
-estimate-one_hash : IsEstimate 64 1 2 1 (Some 2) → ⊥
-estimate-one_hash is = omega (arith, is.at_least)
-
--- three hashes and three bits
-estimate-three : IsEstimate 64 3 3 1 (Some 2)
-unfolding rounded_power
-estimate-three =
-    is-estimate 64 3 3 (lit< tt) (lit< tt) (lit< tt) 1 (lit< tt) (lit≤ tt) (Some 2)
-    (lit< tt) (lit≤ tt)
-
--- an upper bound that is too small, and a lower bound that is too large
-estimate-small : IsEstimate 64 1 1 1 (Some 0) → ⊥
-estimate-small is = omega (arith, is.at_least)
-
-estimate-large : IsEstimate 64 1 1 2 (Some 2) → ⊥
-estimate-large is = omega (arith, is.at_most)
-
--- of no item below the lower bound, and none above the upper one, as much is expected
-estimate-below : IsEstimate 64 1 1 2 None → ⊥
-estimate-below is = omega (arith, is.below 1 (lit< tt))
-
-estimate-above : IsEstimate 64 1 1 0 (Some 0) → ⊥
-estimate-above is = omega (arith, is.above 1 (lit< tt))
-
--- the bounds can't be nearer
-pub tight-one : IsTight 64 1 1 1 (Some 1)
-unfolding rounded_power
-tight-one = record {
-  low_last = λ _. lit< tt;
-  high_first = λ _. lit< tt;
-  none = λ is. absurd (none-some 1 (sym is));
-}
-
-tight-low : IsTight 64 1 1 0 (Some 1) → ⊥
-unfolding rounded_power
-tight-low is = omega (arith, is.low_last (lit< tt))
-
-tight-high : IsTight 64 1 1 1 (Some 2) → ⊥
-unfolding rounded_power
-tight-high is = omega (arith, is.high_first (lit< tt))
-
--- an upper bound is missing only where the greatest number of 64 bits isn't certainly enough
-tight-all : IsTight 64 1 64 (2 ^ 64 - 1) None
-unfolding rounded_power
-tight-all = record {
-  low_last = λ room. absurd (omega (arith, room));
-  high_first = tt;
-  none = λ _. lit< tt;
-}
-
-tight-missing : IsTight 64 1 63 (2 ^ 64 - 1) None → ⊥
-unfolding rounded_power
-tight-missing is = omega (arith, is.none refl)
-
--- of few bits the bounds are at most two items apart
-near-two : IsNear 64 1 0 (Some 2)
-unfolding rounded_power
-near-two = lit≤ tt
-
-near-three : IsNear 64 1 0 (Some 3) → ⊥
-unfolding rounded_power
-near-three is = omega (arith, is)
-
--- no bit is set of no item, and of one neither
-items-none : EstimatesItems 64 1 0 (from_to 0 1 (lit≤ tt)) → ⊥
-items-none is = omega (arith, ap (λ most. unwrap_or most 0) (is.none refl).1)
-
--- of all bits no number is too many
-items-all : EstimatesItems 64 1 64 (from_to 0 5 (lit≤ tt)) → ⊥
-items-all is = none-some 5 (sym (is.all refl))
-
--- the density grows from each number of positions to a greater one, and not from one to itself
+-- the density grows from each number of positions to a greater one
 from_density : DensityLaw → (64 ^ 1 - 63 ^ 1) * 64 ^ 2 < (64 ^ 2 - 63 ^ 2) * 64 ^ 1
 from_density law = law 64 1 2 (lit< tt) (lit< tt)
 
-from_density-same : (64 ^ 2 - 63 ^ 2) * 64 ^ 2 < (64 ^ 2 - 63 ^ 2) * 64 ^ 2 → ⊥
-from_density-same is = omega (arith, is)
+-- an estimate of one number holds it
+holds-just : (items : ℕ) → HoldsItems (just items) items
+holds-just items = record { at_least = le_refl items; at_most = le_refl items }
+
+-- five and four, of which the union has six, have three in common: neither four nor two, and no
+-- wider bounds
+is_common-cases : IsCommon (just 5) (just 4) (just 6) (just 3)
+    × (IsCommon (just 5) (just 4) (just 6) (just 4) → ⊥)
+    × (IsCommon (just 5) (just 4) (just 6) (just 2) → ⊥)
+    × (IsCommon (just 5) (just 4) (just 6) (from_to 2 3 (lit≤ tt)) → ⊥)
+    × (IsCommon (just 5) (just 4) (just 6) (from_to 3 4 (lit≤ tt)) → ⊥)
+is_common-cases = (
+  record {
+    holds = λ m n items first second both. record {
+      at_least = omega (arith, first.at_least, second.at_least, both.at_most);
+      at_most = omega (arith, first.at_most, second.at_most, both.at_least);
+    };
+    low = refl;
+    high = refl;
+  },
+  λ is. omega (arith, (is.holds 5 4 6 (holds-just 5) (holds-just 4) (holds-just 6)).at_least),
+  λ is. omega (arith, (is.holds 5 4 6 (holds-just 5) (holds-just 4) (holds-just 6)).at_most),
+  λ is. omega (arith, is.low),
+  λ is. omega (arith, ap (λ most. unwrap_or most 0) is.high),
+)
+
+-- one of three is a third, which lies between two units: no wider bounds are, and no one unit is
+is_part_of-cases : IsPartOf (just 1) (just 3) third
+    × (IsPartOf (just 1) (just 3) (record third { low = 3074457345618258601; ordered = lit≤ tt })
+    → ⊥)
+    × (IsPartOf (just 1) (just 3)
+    (between 3074457345618258602 3074457345618258604 (lit≤ tt) (lit≤ tt)) → ⊥)
+    × (IsPartOf (just 1) (just 3) (exactly 3074457345618258602 (lit≤ tt)) → ⊥)
+is_part_of-cases = (
+  record {
+    holds = λ m n some all _ _. record {
+      at_least = omega (arith, some.at_least, all.at_most);
+      at_most = omega (arith, some.at_most, all.at_least);
+    };
+    low = refl;
+    high = refl;
+  },
+  λ is. omega (arith, is.low),
+  λ is. omega (arith, is.high),
+  λ is. omega (arith, (is.holds 1 3 (holds-just 1) (holds-just 3) (lit< tt) (lit≤ tt)).at_most),
+)
+
+each-one : EstimatesEach 64 1 1 1 1 (just 1) (just 1) (just 1)
+each-one = record {
+  of_first = estimates_items-cases.0;
+  of_second = estimates_items-cases.0;
+  of_all = estimates_items-cases.0;
+}
+
+common-one : IsCommon (just 1) (just 1) (just 1) (just 1)
+common-one = record {
+  holds = λ m n items first second both. record {
+    at_least = omega (arith, first.at_least, second.at_least, both.at_most);
+    at_most = omega (arith, first.at_most, second.at_most, both.at_least);
+  };
+  low = refl;
+  high = refl;
+}
+
+-- two filters of the same bit have one item in common, and two of no bit have none; one item is
+-- none of two bits, be they those of the first, the second or of both
+estimates_common-cases : EstimatesCommon 64 1 1 1 1 (just 1)
+    × (EstimatesCommon 64 1 0 0 0 (just 1) → ⊥)
+    × (EstimatesEach 64 1 2 1 1 (just 1) (just 1) (just 1) → ⊥)
+    × (EstimatesEach 64 1 1 2 1 (just 1) (just 1) (just 1) → ⊥)
+    × (EstimatesEach 64 1 1 1 2 (just 1) (just 1) (just 1) → ⊥)
+estimates_common-cases = (
+  record { first = just 1; second = just 1; all = just 1; each = each-one; is = common-one },
+  λ is.
+      let first = (is.each.of_first.none refl).0 in
+      let second = (is.each.of_second.none refl).0 in
+      let all = (is.each.of_all.none refl).1 in
+      let wrong : 1 ≡ 0 =
+      is.is.low ∙ ap (λ low. common_least low (least_of is.second) (most_of is.all)) first
+      ∙ ap (λ low. common_least 0 low (most_of is.all)) second ∙ ap (common_least 0 0) all in
+      omega (arith, wrong),
+  λ each. omega (arith, each.of_first.fits.at_least),
+  λ each. omega (arith, each.of_second.fits.at_least),
+  λ each. omega (arith, each.of_all.fits.at_least),
+)
+
+-- two filters of the same bit are wholly alike, and of two of no bit nothing is known
+estimates_likeness-cases : EstimatesLikeness 64 1 1 1 1 (exactly (2 ^ 63) (lit≤ tt))
+    × (EstimatesLikeness 64 1 0 0 0 (exactly (2 ^ 63) (lit≤ tt)) → ⊥)
+estimates_likeness-cases = (
+  record {
+    first = just 1;
+    second = just 1;
+    all = just 1;
+    common = just 1;
+    each = each-one;
+    is_common = common-one;
+    is_part = record {
+      holds = λ m n some all _ _. record {
+        at_least = omega (arith, some.at_least, all.at_most);
+        at_most = omega (arith, some.at_most, all.at_least);
+      };
+      low = refl;
+      high = refl;
+    };
+  },
+  λ is.
+      let wrong : 2 ^ 63 ≡ 0 =
+      is.is_part.low ∙ ap (part_low (least_of is.common)) (is.each.of_all.none refl).1 in
+      omega (arith, wrong),
+)

@@ -1,178 +1,194 @@
--- What contracts say of hashers, each at a case that holds and at one as near as can be that
--- doesn't.
-use Rattle.std.proofs.Common.{◌≡◌, ℕ, List, [], ◌∷◌, refl, ap, arith}
+-- Hashers at values from outside: for each definition that public clauses cite a case that holds
+-- and cases as near as can be that don't. Hashes were made by the crate siphasher 0.3.10
+-- (`SipHasher13`), under the key bytes 0, 1, .., 15 and under a key that was drawn.
+use Rattle.std.proofs.Common.{◌≡◌, ℕ, zero, suc, List, [], ◌∷◌, fold, length, slice_index, refl, ap, arith, lit<}
 use Rattle.bloom_parts.specs.declared.hasher.CloneBuildHasher.{CloneBuildHasher}
 use Rattle.bloom_parts.specs.declared.hasher.sip.RandomDefaultHasher.{RandomDefaultHasher}
-use Rattle.bloom_parts.specs.Chain.{chain, added_of, IsAt}
-use Rattle.bloom_parts.specs.Sip.{start, round, absorb, answer, whole_words, rest, sip}
+use Rattle.bloom_parts.specs.Buffers.{AreBytes, IsKept}
 use Rattle.bloom_parts.specs.Hashed.{SipState, write, finish, Hashed, Takes, Answers}
+use Rattle.bloom_parts.specs.HasherWords.{IsHashing}
 use Rattle.bloom_parts.specs.Keys.{HasKey, key_of, key_low, key_high}
+use Rattle.bloom_parts.specs.Laws.{HashesPieces, CuttingLaw, JoiningLaw}
+use Rattle.bloom_parts.specs.Sip.{start, round, absorb, answer, whole_words, rest, sip}
+use Rattle.bloom_parts.specs.States.{state_words, of_words}
+use Rattle.bloom_parts.proofs.Cases.{keyed, counting, after_one}
 use Rattle.bloom_parts.proofs.HashedLemmas.{takes, answers}
 
--- the hasher of the key of zeros, which has taken in nothing
-abbrev pub fresh : SipState
-fresh = record { low = 0; high = 0; words = start 0 0; held = []; count = 0 }
+-- no bytes, fifteen, and sixteen under a drawn key
+sip-cases : (sip 0x0706_0504_0302_0100 0x0f0e_0d0c_0b0a_0908 [] ≡ 0xabac_0158_050f_c4dc)
+    × (sip 0x0706_0504_0302_0100 0x0f0e_0d0c_0b0a_0908
+    (3 ∷ 10 ∷ 17 ∷ 24 ∷ 31 ∷ 38 ∷ 45 ∷ 52 ∷ 59 ∷ 66 ∷ 73 ∷ 80 ∷ 87 ∷ 94 ∷ 101 ∷ [])
+    ≡ 0x57c2_a248_9d64_ff8f)
+    × (sip 0x13e9_af8a_fe6d_2007 0x6c0f_6b9c_16d8_bb7a
+    (85 ∷ 70 ∷ 43 ∷ 235 ∷ 109 ∷ 100 ∷ 2 ∷ 81 ∷ 214 ∷ 144 ∷ 49 ∷ 206 ∷ 65 ∷ 22 ∷ 186 ∷ 127 ∷ [])
+    ≡ 0x15c6_f4e8_996a_1aa9)
+unfolding sip start round absorb answer whole_words rest
+sip-cases = (refl, refl, refl)
 
--- the hasher of the key of zeros after the byte 7
-abbrev pub after_one : SipState
-after_one = record fresh { held = 7 ∷ []; count = 1 }
+-- a hasher that has taken in nothing: neither word of its key, its state, what it holds, nor the
+-- number of its bytes may be another
+hashed-cases : Hashed (keyed 0 0) 0 0 []
+    × (Hashed (keyed 0 0) 1 0 [] → ⊥)
+    × (Hashed (keyed 0 0) 0 1 [] → ⊥)
+    × (Hashed (record (keyed 0 0) { words = start 0 1 }) 0 0 [] → ⊥)
+    × (Hashed (record (keyed 0 0) { held = 0 ∷ [] }) 0 0 [] → ⊥)
+    × (Hashed (record (keyed 0 0) { count = 1 }) 0 0 [] → ⊥)
+unfolding start whole_words rest
+hashed-cases = (
+  record { low = refl; high = refl; words = refl; held = refl; count = refl },
+  λ is. omega (arith, is.low),
+  λ is. omega (arith, is.high),
+  λ is. omega (arith, ap (λ s. s.v1) is.words),
+  λ is. omega (arith, ap length is.held),
+  λ is. omega (arith, is.count),
+)
 
--- the hasher of the key bytes 0 to 15
-abbrev counting : SipState
-counting = record {
-  low = 0x0706_0504_0302_0100;
-  high = 0x0f0e_0d0c_0b0a_0908;
-  words = start 0x0706_0504_0302_0100 0x0f0e_0d0c_0b0a_0908;
-  held = [];
-  count = 0;
-}
-
-pub hashed-fresh : Hashed fresh 0 0 []
+hashed-one : Hashed after_one 0 0 (7 ∷ [])
 unfolding whole_words rest
-hashed-fresh = record { low = refl; high = refl; words = refl; held = refl; count = refl }
+hashed-one = record { low = refl; high = refl; words = refl; held = refl; count = refl }
 
 hashed-counting : Hashed counting 0x0706_0504_0302_0100 0x0f0e_0d0c_0b0a_0908 []
 unfolding whole_words rest
 hashed-counting = record { low = refl; high = refl; words = refl; held = refl; count = refl }
 
--- neither word of the key may be another
-hashed-low : Hashed fresh 1 0 [] → ⊥
-hashed-low is = omega (arith, is.low)
-
-hashed-high : Hashed fresh 0 1 [] → ⊥
-hashed-high is = omega (arith, is.high)
-
--- neither the state, the bytes held nor their number may be another
-hashed-words : Hashed (record fresh { words = start 0 1 }) 0 0 [] → ⊥
-unfolding start whole_words
-hashed-words is = omega (arith, ap (λ s. s.v1) is.words)
-
-hashed-held : Hashed (record fresh { held = 0 ∷ [] }) 0 0 [] → ⊥
-unfolding rest
-hashed-held is = cc (is.held)
-
-hashed-count : Hashed (record fresh { count = 1 }) 0 0 [] → ⊥
-hashed-count is = omega (arith, is.count)
-
--- seven bytes and two more make a word, and one byte that is held
-write-word : write
-    (record fresh { held = 1 ∷ 2 ∷ 3 ∷ 4 ∷ 5 ∷ 6 ∷ 7 ∷ []; count = 255 }) (8 ∷ 9 ∷ [])
-    ≡ record fresh { words = absorb (start 0 0) 0x0807_0605_0403_0201; held = 9 ∷ []; count = 1 }
+-- seven bytes and ten more are two words, taken in one after the other, and one byte that is left
+write-case : write (record (keyed 0 0) { held = 1 ∷ 0 ∷ 0 ∷ 0 ∷ 0 ∷ 0 ∷ 0 ∷ []; count = 255 })
+    (2 ∷ 3 ∷ 0 ∷ 0 ∷ 0 ∷ 0 ∷ 0 ∷ 0 ∷ 0 ∷ 4 ∷ [])
+    ≡ record (keyed 0 0) {
+      words = absorb (absorb (start 0 0) 0x0200_0000_0000_0001) 3;
+      held = 4 ∷ [];
+      count = 9;
+    }
 unfolding write whole_words rest
-write-word = refl
+write-case = refl
 
--- two whole words are taken in, the first before the second
-write-two_words : write fresh
-    (1 ∷ 0 ∷ 0 ∷ 0 ∷ 0 ∷ 0 ∷ 0 ∷ 0 ∷ 2 ∷ 0 ∷ 0 ∷ 0 ∷ 0 ∷ 0 ∷ 0 ∷ 0 ∷ 3 ∷ [])
-    ≡ record fresh { words = absorb (absorb (start 0 0) 1) 2; held = 3 ∷ []; count = 17 }
-unfolding write whole_words rest
-write-two_words = refl
+-- after the byte 7: it isn't two bytes, nor an 8, and what was taken in before it counts
+takes-cases : Takes (keyed 0 0) after_one (7 ∷ [])
+    × (Takes (keyed 0 0) after_one (7 ∷ 7 ∷ []) → ⊥)
+    × (Takes (keyed 0 0) after_one (8 ∷ []) → ⊥)
+    × (Takes after_one (record after_one { count = 2 }) (7 ∷ []) → ⊥)
+    × (Takes counting after_one (7 ∷ []) → ⊥)
+unfolding start write whole_words rest
+takes-cases = (
+  takes (keyed 0 0) after_one (7 ∷ []) refl,
+  λ taken. omega (arith, (taken 0 0 [] hashed-cases.0).count),
+  λ taken. omega (arith, ap (λ held. slice_index held 0) (taken 0 0 [] hashed-cases.0).held),
+  λ taken. omega (arith, ap (λ held. slice_index held 1) (taken 0 0 (7 ∷ []) hashed-one).held),
+  λ taken. omega (arith, (taken _ _ [] hashed-counting).low),
+)
 
--- a hasher that took in one byte didn't take in two
-pub takes-one : Takes fresh after_one (7 ∷ [])
-unfolding write whole_words rest
-takes-one = takes fresh after_one (7 ∷ []) refl
+-- the hash of the bytes that were taken in, and no other, is the answer
+answers-cases : Answers counting 0xabac_0158_050f_c4dc
+    × (Answers counting 0xabac_0158_050f_c4dd → ⊥)
+    × ((hash : ℕ) → Answers after_one hash → hash ≡ sip 0 0 (7 ∷ []))
+unfolding finish sip start round absorb answer whole_words rest
+answers-cases = (
+  λ k0 k1 bytes is. answers counting k0 k1 bytes is,
+  λ told. omega (arith, told _ _ [] hashed-counting),
+  λ hash told. told 0 0 (7 ∷ []) hashed-one,
+)
 
-takes-two : Takes fresh after_one (7 ∷ 7 ∷ []) → ⊥
-takes-two taken = omega (arith, (taken 0 0 [] hashed-fresh).count)
-
--- the byte taken in is 7, and not 8
-takes-other : Takes fresh after_one (8 ∷ []) → ⊥
-unfolding rest
-takes-other taken = omega (arith, ap (λ held. first held) (taken 0 0 [] hashed-fresh).held)
+-- two bytes in one piece have the hash that they have in two
+from_cutting : CuttingLaw → (hash : ℕ) → HashesPieces 0 0 ((7 ∷ 8 ∷ []) ∷ []) hash
+    → hash ≡ 0xcef0_aac2_190e_4bfa
+unfolding finish start round absorb answer write whole_words rest
+from_cutting law hash is =
+    law 0 0 ((7 ∷ 8 ∷ []) ∷ []) ((7 ∷ []) ∷ (8 ∷ []) ∷ []) hash 0xcef0_aac2_190e_4bfa is
+    (record {
+      fresh = keyed 0 0;
+      last = after_two;
+      begins = hashed-cases.0;
+      taken =
+          (after_one, takes-cases.0, (after_two, takes after_one after_two (8 ∷ []) refl, refl));
+      answers = λ k0 k1 bytes taken. answers after_two k0 k1 bytes taken;
+    }) refl
   where
-    first : List ℕ → ℕ
-    first [] = 0
-    first (byte ∷ bytes) = byte
+    after_two : SipState
+    after_two = record after_one { held = 7 ∷ 8 ∷ []; count = 2 }
 
--- what was taken in before counts too: 9 isn't the second byte after 7
-takes-later : Takes after_one (record fresh { held = 7 ∷ 8 ∷ []; count = 2 }) (9 ∷ []) → ⊥
-unfolding whole_words rest
-takes-later taken = omega (arith, ap (λ held. second held) (taken 0 0 (7 ∷ []) one).held)
-  where
-    second : List ℕ → ℕ
-    second [] = 0
-    second (a ∷ []) = 0
-    second (a ∷ b ∷ bytes) = b
-
-    one : Hashed after_one 0 0 (7 ∷ [])
-    one = record { low = refl; high = refl; words = refl; held = refl; count = refl }
-
--- the key stays, whatever it is
-takes-key : (after : SipState) → Takes counting after (7 ∷ []) → after.low ≡ counting.low
-takes-key after taken =
-    (taken 0x0706_0504_0302_0100 0x0f0e_0d0c_0b0a_0908 [] hashed-counting).low
-
--- the hash of no bytes under the key bytes 0 to 15
-finish-counting : finish counting ≡ 0xabac_0158_050f_c4dc
-unfolding finish start round absorb answer
-finish-counting = refl
-
-answers-none : Answers counting 0xabac_0158_050f_c4dc
-unfolding finish start round absorb answer
-answers-none k0 k1 bytes is = answers counting k0 k1 bytes is
-
-answers-other : Answers counting 0xabac_0158_050f_c4dd → ⊥
-unfolding sip start round absorb answer whole_words rest
-answers-other told =
-    omega (arith, told 0x0706_0504_0302_0100 0x0f0e_0d0c_0b0a_0908 [] hashed-counting)
-
--- an answer after one byte is the hash of that byte
-answers-one : (hash : ℕ) → Answers after_one hash → hash ≡ sip 0 0 (7 ∷ [])
-unfolding whole_words rest
-answers-one hash told =
-    told 0 0 (7 ∷ [])
-    (record { low = refl; high = refl; words = refl; held = refl; count = refl })
+-- the law of joining, at two pieces of a byte each
+from_joining : JoiningLaw → (hasher : SipState) (k0 k1 : ℕ) → Hashed hasher k0 k1 []
+    → finish (fold write hasher ((7 ∷ []) ∷ (8 ∷ []) ∷ [])) ≡ sip k0 k1 (7 ∷ 8 ∷ [])
+from_joining law hasher k0 k1 is = law hasher k0 k1 ((7 ∷ []) ∷ (8 ∷ []) ∷ []) is
 
 -- the two words of the key bytes 0 to 15
-key_low-counting : key_low
-    (0 ∷ 1 ∷ 2 ∷ 3 ∷ 4 ∷ 5 ∷ 6 ∷ 7 ∷ 8 ∷ 9 ∷ 10 ∷ 11 ∷ 12 ∷ 13 ∷ 14 ∷ 15 ∷ [])
-    ≡ 0x0706_0504_0302_0100
-key_low-counting = refl
+abbrev key_bytes : List ℕ
+key_bytes = 0 ∷ 1 ∷ 2 ∷ 3 ∷ 4 ∷ 5 ∷ 6 ∷ 7 ∷ 8 ∷ 9 ∷ 10 ∷ 11 ∷ 12 ∷ 13 ∷ 14 ∷ 15 ∷ []
 
-key_high-counting : key_high
-    (0 ∷ 1 ∷ 2 ∷ 3 ∷ 4 ∷ 5 ∷ 6 ∷ 7 ∷ 8 ∷ 9 ∷ 10 ∷ 11 ∷ 12 ∷ 13 ∷ 14 ∷ 15 ∷ [])
-    ≡ 0x0f0e_0d0c_0b0a_0908
-key_high-counting = refl
+key-words : (key_low key_bytes ≡ 0x0706_0504_0302_0100)
+    × (key_high key_bytes ≡ 0x0f0e_0d0c_0b0a_0908)
+key-words = (refl, refl)
 
--- a builder of hashers with the key bytes 0 to 15
-abbrev builder : CloneBuildHasher RandomDefaultHasher
-builder = record { hasher = counting }
+-- the builder of this hasher
+abbrev builder : SipState → CloneBuildHasher RandomDefaultHasher
+builder hasher = record { hasher = hasher }
 
-has_key-counting : HasKey builder 0x0706_0504_0302_0100 0x0f0e_0d0c_0b0a_0908
-has_key-counting = hashed-counting
+-- the words of a key have their order, and no byte was taken in
+has_key-cases : HasKey (builder (keyed 1 2)) 1 2
+    × (HasKey (builder (keyed 1 2)) 2 1 → ⊥)
+    × (HasKey (builder after_one) 0 0 → ⊥)
+unfolding whole_words rest
+has_key-cases = (
+  record { low = refl; high = refl; words = refl; held = refl; count = refl },
+  λ is. omega (arith, is.low),
+  λ is. omega (arith, is.count),
+)
 
-has_key-swapped : HasKey builder 0x0f0e_0d0c_0b0a_0908 0x0706_0504_0302_0100 → ⊥
-has_key-swapped is = omega (arith, is.low)
+key_of-case : key_of (builder (keyed 1 2)) ≡ (1, 2)
+key_of-case = refl
 
-has_key-low : HasKey builder 0x0706_0504_0302_0101 0x0f0e_0d0c_0b0a_0908 → ⊥
-has_key-low is = omega (arith, is.low)
+-- 255 is a byte, and 256 is none
+are_bytes-cases : AreBytes (255 ∷ []) × (AreBytes (0 ∷ 256 ∷ []) → ⊥)
+are_bytes-cases = (greatest, λ are. omega (arith, are 1))
+  where
+    greatest : AreBytes (255 ∷ [])
+    greatest zero = lit< tt
+    greatest (suc i) = omega arith
 
-has_key-high : HasKey builder 0x0706_0504_0302_0100 0x0f0e_0d0c_0b0a_0909 → ⊥
-has_key-high is = omega (arith, is.high)
+-- a hasher keeps at most seven bytes that count, zeros behind them, and a number below 256
+is_kept-cases : IsKept (1 ∷ 2 ∷ 3 ∷ 4 ∷ 5 ∷ 6 ∷ 7 ∷ 0 ∷ []) 255
+    × (IsKept (1 ∷ 2 ∷ 3 ∷ 4 ∷ 0 ∷ 0 ∷ 0 ∷ 0 ∷ []) 11 → ⊥)
+    × (IsKept (0 ∷ 0 ∷ 0 ∷ 0 ∷ 0 ∷ 0 ∷ 0 ∷ 0 ∷ []) 256 → ⊥)
+is_kept-cases = (
+  record { padding = refl; small = lit< tt },
+  λ is. omega (arith, ap (λ buffer. slice_index buffer 3) is.padding),
+  λ is. omega (arith, is.small),
+)
 
-has_key-later : HasKey (record { hasher = after_one }) 0 0 → ⊥
-has_key-later is = omega (arith, is.count)
+-- a state has the four words of SipHash in their order
+state-words : (state_words (record { v0 = 1; v1 = 2; v2 = 3; v3 = 4 })
+    ≡ record { v0 = 1; v1 = 2; v2 = 3; v3 = 4 })
+    × (of_words (record { v0 = 1; v1 = 2; v2 = 3; v3 = 4 })
+    ≡ record { v0 = 1; v1 = 2; v2 = 3; v3 = 4 })
+state-words = (refl, refl)
 
-key_of-counting : key_of builder ≡ (0x0706_0504_0302_0100, 0x0f0e_0d0c_0b0a_0908)
-key_of-counting = refl
+-- the eight words of a hasher of the key 1 and 2 before the first whole word
+abbrev eight : ℕ → ℕ → List ℕ
+eight word count =
+    1 ∷ 2 ∷ 0x736f_6d65_7073_6574 ∷ 0x646f_7261_6e64_6f6f ∷ 0x6c79_6765_6e65_7260
+    ∷ 0x7465_6462_7974_6571 ∷ word ∷ count ∷ []
 
--- the chain of the hash 1 before its first value and before its second
-is_at-first : IsAt 1 0 (record { newest = 1; added = 0x517c_c1b7_2722_0a95 })
-unfolding chain
-is_at-first = record { newest = refl; added = refl }
-
-is_at-second : IsAt 1 1 (record { newest = 0x517c_c1b7_2722_0ab5; added = 0x517c_c1b7_2722_0a95 })
-unfolding chain
-is_at-second = record { newest = refl; added = refl }
-
-is_at-late : IsAt 1 1 (record { newest = 1; added = 0x517c_c1b7_2722_0a95 }) → ⊥
-unfolding chain
-is_at-late is = omega (arith, is.newest)
-
-is_at-added : IsAt 1 0 (record { newest = 1; added = 0x517c_c1b7_2722_0a96 }) → ⊥
-is_at-added is = omega (arith, is.added)
-
--- the word that is added is cut to 64 bits
-added_of-greatest : added_of 0xffff_ffff_ffff_ffff ≡ 0xae83_3e48_d8dd_f56b
-added_of-greatest = refl
+-- after two bytes, of which the first is the lowest; the number of bytes and both words of the key
+-- count, what is no byte was never taken in, and a whole word goes into the state
+is_hashing-cases : IsHashing 1 2 (3 ∷ 4 ∷ []) (eight 0x0403 2)
+    × (IsHashing 1 2 (3 ∷ 4 ∷ []) (eight 0x0304 2) → ⊥)
+    × (IsHashing 1 2 (0 ∷ []) (eight 0 0) → ⊥)
+    × (IsHashing 3 2 [] (eight 0 0) → ⊥)
+    × (IsHashing 1 3 [] (eight 0 0) → ⊥)
+    × (IsHashing 1 2 (256 ∷ []) (eight 256 1) → ⊥)
+    × (IsHashing 1 2 (1 ∷ 2 ∷ 3 ∷ 4 ∷ 5 ∷ 6 ∷ 7 ∷ 8 ∷ 9 ∷ []) (eight 9 9) → ⊥)
+unfolding start round absorb whole_words rest
+is_hashing-cases = (
+  record { small = two_bytes; words = refl },
+  λ is. omega (arith, ap (λ words. slice_index words 6) is.words),
+  λ is. omega (arith, ap (λ words. slice_index words 7) is.words),
+  λ is. omega (arith, ap (λ words. slice_index words 0) is.words),
+  λ is. omega (arith, ap (λ words. slice_index words 1) is.words),
+  λ is. omega (arith, is.small 0),
+  λ is. omega (arith, ap (λ words. slice_index words 2) is.words),
+)
+  where
+    two_bytes : AreBytes (3 ∷ 4 ∷ [])
+    two_bytes zero = lit< tt
+    two_bytes (suc zero) = lit< tt
+    two_bytes (suc (suc i)) = lit< tt

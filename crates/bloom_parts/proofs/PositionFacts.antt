@@ -1,55 +1,84 @@
--- What contracts say of positions, each at a case that holds and at one as near as can be that
--- doesn't.
-use Rattle.std.proofs.Common.{◌≡◌, ℕ, zero, suc, ◌+◌, ◌-◌, ◌^◌, ◌<◌, ◌≤◌, true, false, eqb, ltb, List, [], ◌∷◌, length, refl, ap, arith, lit<, lit≤}
-use Rattle.std.proofs.lemmas.Bool.{both_ways, eqb-true, eq-eqb}
-use Rattle.bloom_parts.specs.Chain.{chain}
-use Rattle.bloom_parts.specs.Content.{bit_is_on, content, index_of, AreWords, EqualWordsLaw, BoundLaw}
+-- Words as sets of positions, and the positions of hashes, at values from outside: for each
+-- definition that public clauses cite a case that holds and cases as near as can be that don't.
+-- The hash 1 has the positions 0, 20, 32 and 29 among 64, and the hash 0 has position 0 alone.
+use Rattle.std.proofs.Common.{◌≡◌, ℕ, zero, suc, ◌+◌, ◌-◌, ◌^◌, ◌<◌, ◌≤◌, ◌&&◌, Bool, true, false, not, [], ◌∷◌, nat_lt, slice_index, refl, sym, ◌∙◌, ap, arith, lit<, lit≤}
+use Rattle.std.proofs.lemmas.Bool.{both_ways, le-ltb}
+use Rattle.bloom_parts.specs.Chain.{chain, IsAt}
+use Rattle.bloom_parts.specs.Content.{content, index_of, AreWords, EqualWordsLaw, BoundLaw}
+use Rattle.bloom_parts.specs.Counts.{count_on}
+use Rattle.bloom_parts.specs.Many.{TellsFound, TellsNew, after_first}
 use Rattle.bloom_parts.specs.Places.{place, positions, are_in, IsPosition, IsPart, PositionsLaw, SubsetLaw, RangeLaw}
 use Rattle.bloom_parts.specs.Shares.{share_start, IsOnly, ShareLaw, ReachedLaw, EvenLaw}
+use Rattle.bloom_parts.proofs.BitSetLemmas.{bits-next, content-where}
 use Rattle.bloom_parts.proofs.PlaceLemmas.{part-from}
+use Rattle.bloom_parts.proofs.PublishedLemmas.{content-zeros}
 
--- where the greatest hash lies among three positions, and the hashes at the start of a share
-index-greatest : index_of 3 0xffff_ffff_ffff_ffff ≡ 2
-index-greatest = refl
-
-index-share : index_of 3 6148914691236517206 ≡ 1
-index-share = refl
-
-index-before : index_of 3 6148914691236517205 ≡ 0
-index-before = refl
-
--- the bit of a position in its word is its remainder by 64
-bit_is_on-twenty : bit_is_on 1048576 84 ≡ true
-bit_is_on-twenty = refl
-
-bit_is_on-beside : bit_is_on 1048576 85 ≡ false
-bit_is_on-beside = refl
-
--- past the last word no position is set
-content-past : content (0xffff_ffff_ffff_ffff ∷ []) 64 ≡ false
-unfolding content
-content-past = refl
-
-content-last : content (0xffff_ffff_ffff_ffff ∷ []) 63 ≡ true
-unfolding content
-content-last = refl
-
--- the hash 1 has the positions 0, 20, 32 among 64, and 29 would be its fourth
-positions-third : positions 64 3 1 32 ≡ true
-unfolding positions chain
-positions-third = refl
-
-positions-fourth : positions 64 3 1 29 ≡ false
-unfolding positions chain
-positions-fourth = refl
-
-positions-none : positions 64 0 1 0 ≡ false
-unfolding positions
-positions-none = refl
-
-is_position-third : IsPosition 64 3 1 32
+-- the source hash comes first, and sums are truncated to 64 bits
+chain-cases : (chain 1 0 ≡ 0x0000_0000_0000_0001) × (chain 1 1 ≡ 0x517c_c1b7_2722_0ab5)
+    × (chain 1 2 ≡ 0x8114_f89c_0b63_613f)
+    × (chain 0xffff_ffff_ffff_ffff 1 ≡ 0xae83_3e48_d8dd_f56a)
 unfolding chain
-is_position-third = record { index = 2; below = lit< tt; here = refl }
+chain-cases = (refl, refl, refl, refl)
+
+-- a chain after one value, and with a value too few or another word to add
+is_at-cases : IsAt 1 1 (record { newest = 0x517c_c1b7_2722_0ab5; added = 0x517c_c1b7_2722_0a95 })
+    × (IsAt 1 1 (record { newest = 1; added = 0x517c_c1b7_2722_0a95 }) → ⊥)
+    × (IsAt 1 1 (record { newest = 0x517c_c1b7_2722_0ab5; added = 0x517c_c1b7_2722_0a96 }) → ⊥)
+unfolding chain
+is_at-cases = (
+  record { newest = refl; added = refl },
+  λ is. omega (arith, is.newest),
+  λ is. omega (arith, is.added),
+)
+
+-- bit 32 of word 1 is position 96 and no other, and past the last word nothing is set
+content-cases : (content (0 ∷ 2 ^ 32 ∷ 0 ∷ []) 96 ≡ true)
+    × (content (0 ∷ 2 ^ 32 ∷ 0 ∷ []) 95 ≡ false)
+    × (content (0xffff_ffff_ffff_ffff ∷ []) 63 ≡ true)
+    × (content (0xffff_ffff_ffff_ffff ∷ []) 64 ≡ false)
+unfolding content
+content-cases = (refl, refl, refl, refl)
+
+-- three positions share the hashes by thirds
+index_of-cases : (index_of 3 6148914691236517205 ≡ 0) × (index_of 3 6148914691236517206 ≡ 1)
+    × (index_of 3 0xffff_ffff_ffff_ffff ≡ 2)
+index_of-cases = (refl, refl, refl)
+
+-- a word is below 2^64
+are_words-cases : AreWords (0xffff_ffff_ffff_ffff ∷ [])
+    × (AreWords (0 ∷ 0x1_0000_0000_0000_0000 ∷ []) → ⊥)
+are_words-cases = (greatest, λ are. omega (arith, are 1 0 (lit< tt)))
+  where
+    greatest : AreWords (0xffff_ffff_ffff_ffff ∷ [])
+    greatest zero other below = lit< tt
+    greatest (suc i) other below = absurd (omega arith)
+
+-- the last position of a word and the first of the next are two, of which one is below the bound
+count_on-cases : (count_on (content (2 ^ 63 ∷ 1 ∷ [])) 128 ≡ 2)
+    × (count_on (content (2 ^ 63 ∷ 1 ∷ [])) 64 ≡ 1)
+    × (count_on (content (2 ^ 63 ∷ 1 ∷ [])) 63 ≡ 0)
+unfolding content count_on
+count_on-cases = (refl, refl, refl)
+
+-- positions of the hash 1 among 64 and 128, and of the greatest hash
+place-cases : (place 64 1 0 ≡ 0) × (place 64 1 1 ≡ 20) × (place 64 1 2 ≡ 32)
+    × (place 128 1 1 ≡ 40) × (place 128 1 2 ≡ 64)
+    × (place 64 0xffff_ffff_ffff_ffff 0 ≡ 63) × (place 64 0xffff_ffff_ffff_ffff 1 ≡ 43)
+unfolding chain
+place-cases = (refl, refl, refl, refl, refl, refl, refl)
+
+-- of three positions of the hash 1 the last is 32, and 29 is its fourth
+positions-cases : (positions 64 3 1 32 ≡ true) × (positions 64 3 1 0 ≡ true)
+    × (positions 64 3 1 29 ≡ false) × (positions 64 0 1 0 ≡ false)
+unfolding positions chain
+positions-cases = (refl, refl, refl, refl)
+
+-- the three positions are in a word with the bits 0, 20 and 32, and not in one without one of them
+are_in-cases : (are_in 64 3 1 (content (4296015873 ∷ [])) ≡ true)
+    × (are_in 64 3 1 (content (1048577 ∷ [])) ≡ false)
+    × (are_in 64 3 1 (content (4296015872 ∷ [])) ≡ false)
+unfolding are_in content chain
+are_in-cases = (refl, refl, refl)
 
 -- none of the first three places is 29
 no_place : (i : ℕ) → i < 3 → place 64 1 i ≡ 29 → ⊥
@@ -59,128 +88,102 @@ no_place (suc zero) below is = omega (arith, is)
 no_place (suc (suc zero)) below is = omega (arith, is)
 no_place (suc (suc (suc i))) below is = omega (arith, below)
 
-is_position-fourth : IsPosition 64 3 1 29 → ⊥
-is_position-fourth found = no_place found.index found.below found.here
+is_position-cases : IsPosition 64 3 1 32 × (IsPosition 64 3 1 29 → ⊥)
+unfolding chain
+is_position-cases = (
+  record { index = 2; below = lit< tt; here = refl },
+  λ found. no_place found.index found.below found.here,
+)
 
--- the positions are in a word with the bits 0, 20 and 32, and not in one without the last
-are_in-all : are_in 64 3 1 (content (4296015873 ∷ [])) ≡ true
-unfolding are_in content chain
-are_in-all = refl
+-- what is in the set of positions is a position, and a position is in it
+from_positions : PositionsLaw → IsPosition 64 3 1 32 × (positions 64 3 1 32 ≡ true)
+from_positions law =
+    ((law 64 3 1 32).0 positions-cases.0, (law 64 3 1 32).1 is_position-cases.0)
 
-are_in-two : are_in 64 3 1 (content (1048577 ∷ [])) ≡ false
-unfolding are_in content chain
-are_in-two = refl
-
-is_part-all : IsPart (positions 64 3 1) (content (4296015873 ∷ []))
-is_part-all = part-from 64 3 1 (content (4296015873 ∷ [])) are_in-all
-
-is_part-two : IsPart (positions 64 3 1) (content (1048577 ∷ [])) → ⊥
-unfolding content
-is_part-two part = both_ways (content (1048577 ∷ []) 32) refl (part 32 positions-third)
-
--- a word is below 2^64
-are_words-greatest : AreWords (0xffff_ffff_ffff_ffff ∷ 0 ∷ [])
-are_words-greatest zero other below = lit< tt
-are_words-greatest (suc zero) other below = lit< tt
-are_words-greatest (suc (suc i)) other below = absurd (omega arith)
-
-are_words-beyond : AreWords (0 ∷ 0x1_0000_0000_0000_0000 ∷ []) → ⊥
-are_words-beyond are = omega (arith, are 1 0 (lit< tt))
-
--- the set of the number 3 alone has no other, and that of 0 and 1 has two
-is_only-three : IsOnly (λ p. eqb p 3) 3
-is_only-three q = (eqb-true q 3, eq-eqb q 3)
-
-is_only-four : IsOnly (λ p. eqb p 3) 4 → ⊥
-is_only-four only = both_ways (eqb 4 3) refl ((only 4).1 refl)
-
-is_only-one_of_two : IsOnly (λ p. ltb p 2) 0 → ⊥
-is_only-one_of_two only = omega (arith, (only 1).0 refl)
-
--- the shares of three positions start at thirds of the hashes, and those of 64 at sixty-fourths
-share_start-third : share_start 3 1 ≡ 6148914691236517206
-share_start-third = refl
-
-share_start-two_thirds : share_start 3 2 ≡ 12297829382473034411
-share_start-two_thirds = refl
-
-share_start-end : share_start 3 3 ≡ 2 ^ 64
-share_start-end = refl
-
-share_start-twentieth : share_start 64 20 ≡ 5764607523034234880
-share_start-twentieth = refl
-
--- what is in the set of positions is a position
-from_positions : PositionsLaw → IsPosition 64 3 1 32
-from_positions law = (law 64 3 1 32).0 positions-third
-
--- a position is in the set of positions
-to_positions : PositionsLaw → positions 64 3 1 32 ≡ true
-to_positions law = (law 64 3 1 32).1 is_position-third
-
--- where the test holds, the positions are a part of the set
+-- the test holds where the positions are a part of the set, and where one of them isn't it doesn't
 from_subset : SubsetLaw → IsPart (positions 64 3 1) (content (4296015873 ∷ []))
-from_subset law = (law 64 3 1 (content (4296015873 ∷ []))).0 are_in-all
-
--- where the positions are a part of the set, the test holds
-to_subset : SubsetLaw → are_in 64 3 1 (content (4296015873 ∷ [])) ≡ true
-to_subset law = (law 64 3 1 (content (4296015873 ∷ []))).1 is_part-all
+    × (are_in 64 3 1 (content (4296015873 ∷ [])) ≡ true)
+    × (IsPart (positions 64 3 1) (content (1048577 ∷ [])) → ⊥)
+unfolding content
+from_subset law = (
+  (law 64 3 1 (content (4296015873 ∷ []))).0 are_in-cases.0,
+  (law 64 3 1 (content (4296015873 ∷ []))).1
+      (part-from 64 3 1 (content (4296015873 ∷ [])) are_in-cases.0),
+  λ part. both_ways (content (1048577 ∷ []) 32) refl (part 32 positions-cases.0),
+)
 
 -- the greatest hash lies within a single bit too
 from_range : RangeLaw → (p : ℕ) → positions 1 2 0xffff_ffff_ffff_ffff p ≡ true → p < 1
 from_range law p is = law 1 2 0xffff_ffff_ffff_ffff p (lit< tt) (lit< tt) is
 
--- single words are equal where their contents are
-from_equality : EqualWordsLaw → (a b : ℕ) → AreWords (a ∷ []) → AreWords (b ∷ [])
-    → ((p : ℕ) → content (a ∷ []) p ≡ content (b ∷ []) p) → a ∷ [] ≡ b ∷ []
-from_equality law a b a_is b_is same = (law (a ∷ []) (b ∷ []) a_is b_is refl).1 same
+-- lists of two words are equal where their contents are, and have one content where they are equal
+from_equal_words : EqualWordsLaw → (a b c d : ℕ) → AreWords (a ∷ b ∷ []) → AreWords (c ∷ d ∷ [])
+    → (((p : ℕ) → content (a ∷ b ∷ []) p ≡ content (c ∷ d ∷ []) p) → a ∷ b ∷ [] ≡ c ∷ d ∷ [])
+    × (a ∷ b ∷ [] ≡ c ∷ d ∷ [] → (p : ℕ) → content (a ∷ b ∷ []) p ≡ content (c ∷ d ∷ []) p)
+from_equal_words law a b c d first second =
+    let both = law (a ∷ b ∷ []) (c ∷ d ∷ []) first second refl in (both.1, both.0)
 
--- lists of two words are equal where their contents are
-from_equality-two : EqualWordsLaw → (a b c d : ℕ) → AreWords (a ∷ b ∷ []) → AreWords (c ∷ d ∷ [])
-    → ((p : ℕ) → content (a ∷ b ∷ []) p ≡ content (c ∷ d ∷ []) p) → a ∷ b ∷ [] ≡ c ∷ d ∷ []
-from_equality-two law a b c d first second same =
-    (law (a ∷ b ∷ []) (c ∷ d ∷ []) first second refl).1 same
+-- no position of one word is 64 or more, and none is set in no words
+from_bound : BoundLaw → ((word p : ℕ) → content (word ∷ []) p ≡ true → p < 64)
+    × (content [] 0 ≡ true → ⊥)
+from_bound law = (λ word p on. law (word ∷ []) p on, λ on. omega (arith, law [] 0 on))
 
--- no position of one word is 64 or more
-from_bound-one : BoundLaw → (word p : ℕ) → content (word ∷ []) p ≡ true → p < 64
-from_bound-one law word p on = law (word ∷ []) p on
-
--- no position is set in no words
-from_bound : BoundLaw → (words : List ℕ) → content words 0 ≡ true → words ≡ [] → ⊥
-from_bound law words on none = omega (arith, law words 0 on, ap length none)
-
--- the hash at the start of a share has its position alone
+-- the hash at the start of a share has its position alone, and the hashes beside the share don't
 from_share : ShareLaw → IsOnly (positions 3 1 6148914691236517206) 1
-from_share law = (law 3 1 6148914691236517206 (lit< tt) (lit< tt)).1 (lit≤ tt, lit< tt)
+    × (IsOnly (positions 3 1 6148914691236517205) 1 → ⊥)
+    × (IsOnly (positions 3 1 12297829382473034411) 1 → ⊥)
+from_share law = (
+  (law 3 1 6148914691236517206 (lit< tt) (lit< tt)).1 (lit≤ tt, lit< tt),
+  λ only. omega (arith, ((law 3 1 6148914691236517205 (lit< tt) (lit< tt)).0 only).0),
+  λ only. omega (arith, ((law 3 1 12297829382473034411 (lit< tt) (lit< tt)).0 only).1),
+)
 
--- the greatest hash is before the end of the last share
-to_share : ShareLaw → IsOnly (positions 1 1 0xffff_ffff_ffff_ffff) 0
-    → 0xffff_ffff_ffff_ffff < share_start 1 1
-to_share law only = ((law 1 0 0xffff_ffff_ffff_ffff (lit< tt) (lit< tt)).0 only).1
+-- a single position has a share, and each of 2^64 has one
+from_reached : ReachedLaw → (i : ℕ) → (share_start 1 i < share_start 1 (i + 1))
+    × (share_start (2 ^ 64) i < share_start (2 ^ 64) (i + 1))
+from_reached law i = (law 1 i (lit< tt) (lit≤ tt), law (2 ^ 64) i (lit< tt) (lit≤ tt))
 
--- a hash before the start of a share, and one at the start of the next, have other positions
-to_share-before : ShareLaw → IsOnly (positions 3 1 6148914691236517205) 1 → ⊥
-to_share-before law only =
-    omega (arith, ((law 3 1 6148914691236517205 (lit< tt) (lit< tt)).0 only).0)
-
-to_share-after : ShareLaw → IsOnly (positions 3 1 12297829382473034411) 1 → ⊥
-to_share-after law only =
-    omega (arith, ((law 3 1 12297829382473034411 (lit< tt) (lit< tt)).0 only).1)
-
--- a single position has a share
-from_reached-one : ReachedLaw → (i : ℕ) → share_start 1 i < share_start 1 (i + 1)
-from_reached-one law i = law 1 i (lit< tt) (lit≤ tt)
-
--- each of 2^64 positions has a share
-from_reached : ReachedLaw → (i : ℕ) → share_start (2 ^ 64) i < share_start (2 ^ 64) (i + 1)
-from_reached law i = law (2 ^ 64) i (lit< tt) (lit≤ tt)
-
--- the shares of a single position are even
-from_even : EvenLaw → (i j : ℕ) → share_start 1 (i + 1) - share_start 1 i
-    ≤ share_start 1 (j + 1) - share_start 1 j + 1
-from_even law i j = law 1 i j (lit< tt)
-
--- the shares of three positions are even too
-from_even-three : EvenLaw → (i j : ℕ) → share_start 3 (i + 1) - share_start 3 i
+-- the shares of three positions differ by one hash at most
+from_even : EvenLaw → (i j : ℕ) → share_start 3 (i + 1) - share_start 3 i
     ≤ share_start 3 (j + 1) - share_start 3 j + 1
-from_even-three law i j = law 3 i j (lit< tt)
+from_even law i j = law 3 i j (lit< tt)
+
+-- no bit is told below the first
+no-bit : (F : ℕ → Bool) (p : ℕ) → content (0 ∷ []) p ≡ (nat_lt p 0 && F p)
+no-bit F p = content-zeros 1 p ∙ ap (λ b. b && F p) (sym (le-ltb p 0 (omega arith)))
+
+-- the bit of a hash that is contained is set, and neither that of one that isn't, nor one past the
+-- hashes
+tells_found-cases : TellsFound 64 1 (content (1 ∷ [])) (0 ∷ []) (1 ∷ [])
+    × (TellsFound 64 1 (content (1 ∷ [])) (0 ∷ []) (0 ∷ []) → ⊥)
+    × (TellsFound 64 1 (content (1 ∷ [])) (0 ∷ []) (3 ∷ []) → ⊥)
+    × (TellsFound 64 1 (content (2 ∷ [])) (0 ∷ []) (1 ∷ []) → ⊥)
+unfolding content are_in chain
+tells_found-cases = (
+  bits-next (λ i. are_in 64 1 (slice_index (0 ∷ []) i) (content (1 ∷ []))) (content (0 ∷ []))
+      (content (1 ∷ [])) 0 (no-bit (λ i. are_in 64 1 (slice_index (0 ∷ []) i) (content (1 ∷ []))))
+      (content-where (0 ∷ []) 0 true 1 (lit< tt) refl),
+  λ told. both_ways false refl (told 0),
+  λ told. both_ways false refl (sym (told 1)),
+  λ told. both_ways false refl (sym (told 0)),
+)
+
+-- of a hash that comes twice the first is new and the second isn't, and none that was contained is
+tells_new-cases : TellsNew 64 1 (content (0 ∷ [])) (0 ∷ 0 ∷ []) (1 ∷ [])
+    × (TellsNew 64 1 (content (0 ∷ [])) (0 ∷ 0 ∷ []) (0 ∷ []) → ⊥)
+    × (TellsNew 64 1 (content (0 ∷ [])) (0 ∷ 0 ∷ []) (3 ∷ []) → ⊥)
+    × (TellsNew 64 1 (content (1 ∷ [])) (0 ∷ []) (1 ∷ []) → ⊥)
+unfolding content are_in positions chain
+tells_new-cases = (
+  bits-next new (content (1 ∷ [])) (content (1 ∷ [])) 1
+      (bits-next new (content (0 ∷ [])) (content (1 ∷ [])) 0 (no-bit new)
+      (content-where (0 ∷ []) 0 true 1 (lit< tt) refl))
+      (content-where (1 ∷ []) 1 false 0 (lit< tt) refl),
+  λ told. both_ways false refl (told 0),
+  λ told. both_ways false refl (sym (told 1)),
+  λ told. both_ways false refl (sym (told 0)),
+)
+  where
+    new : ℕ → Bool
+    new i = not (are_in 64 1 (slice_index (0 ∷ 0 ∷ []) i)
+        (after_first 64 1 (content (0 ∷ [])) (0 ∷ 0 ∷ []) i))

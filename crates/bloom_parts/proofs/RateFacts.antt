@@ -1,5 +1,5 @@
--- What refusals and rates are, case by case.
-use Rattle.std.proofs.Common.{◌≡◌, true, false, Some, None, refl, lit<}
+-- Refusals and rates, case by case.
+use Rattle.std.proofs.Common.{◌≡◌, ℕ, ◌<◌, true, false, Some, None, refl, lit<}
 use Rattle.bloom_parts.specs.declared.error.FilterError.TheVariants.{ZeroBits, EmptyWords, TooManyWords, ZeroRate, SizeOverflow, Memory, HashCount, Worker}
 use Rattle.bloom_parts.specs.declared.math.rate.Rate.{Rate}
 use Rattle.bloom_parts.specs.Codes.{code_of}
@@ -12,39 +12,20 @@ codes : (code_of ZeroBits ≡ 1) × (code_of EmptyWords ≡ 2) × (code_of TooMa
 codes = (refl, refl, refl, refl, refl, refl, refl, refl)
 
 -- a rate with a part of zero is refused, and no other
-rate_refusal-num : rate_refusal 0 1 ≡ Some ZeroRate
-rate_refusal-num = refl
+rate_refusal-cases : (rate_refusal 0 1 ≡ Some ZeroRate) × (rate_refusal 1 0 ≡ Some ZeroRate)
+    × (rate_refusal 1 1 ≡ None) × (rate_refusal 3 2 ≡ None)
+rate_refusal-cases = (refl, refl, refl, refl)
 
-rate_refusal-den : rate_refusal 1 0 ≡ Some ZeroRate
-rate_refusal-den = refl
+-- the rate of these parts
+abbrev rate : (num den : ℕ) → 0 < num → 0 < den → Rate
+rate num den num_above den_above =
+    record { num = num; den = den; num_above = num_above; den_above = den_above }
 
-rate_refusal-both : rate_refusal 0 0 ≡ Some ZeroRate
-rate_refusal-both = refl
+-- 1 / 2 is 2 / 4, and not 2 / 5
+same_rate-cases : (same_rate (rate 1 2 (lit< tt) (lit< tt)) (rate 2 4 (lit< tt) (lit< tt)) ≡ true)
+    × (same_rate (rate 1 2 (lit< tt) (lit< tt)) (rate 2 5 (lit< tt) (lit< tt)) ≡ false)
+same_rate-cases = (refl, refl)
 
-rate_refusal-none : rate_refusal 1 1 ≡ None
-rate_refusal-none = refl
-
-rate_refusal-above : rate_refusal 3 2 ≡ None
-rate_refusal-above = refl
-
--- the rates 1 / 2 and 2 / 4, which are equal, and 2 / 5
-abbrev half : Rate
-half = record { num = 1; den = 2; num_above = lit< tt; den_above = lit< tt }
-
-abbrev two_fourths : Rate
-two_fourths = record { num = 2; den = 4; num_above = lit< tt; den_above = lit< tt }
-
-abbrev two_fifths : Rate
-two_fifths = record { num = 2; den = 5; num_above = lit< tt; den_above = lit< tt }
-
-same_rate-half : same_rate half two_fourths ≡ true
-same_rate-half = refl
-
-same_rate-other : same_rate half two_fifths ≡ false
-same_rate-other = refl
-
-num_of-half : num_of two_fourths ≡ 2
-num_of-half = refl
-
-den_of-half : den_of two_fourths ≡ 4
-den_of-half = refl
+parts-of_rate : (num_of (rate 2 4 (lit< tt) (lit< tt)) ≡ 2)
+    × (den_of (rate 2 4 (lit< tt) (lit< tt)) ≡ 4)
+parts-of_rate = (refl, refl)

@@ -1,103 +1,82 @@
--- The definitions of sizing at values from outside: a wrong constant fails here.
-use Rattle.std.proofs.Common.{◌≡◌, ℕ, ◌^◌, refl, arith, lit<, lit≤}
+-- Roots, sizes and numbers of hashes at values from outside: for each definition that public
+-- clauses cite a case that holds and cases as near as can be that don't.
+use Rattle.std.proofs.Common.{◌≡◌, ℕ, ◌+◌, ◌-◌, ◌*◌, ◌^◌, ◌≤◌, refl, ap, ◌∙◌, arith, lit<, lit≤}
 use Rattle.bloom_parts.specs.Roots.{IsRoot}
-use Rattle.bloom_parts.specs.Sizing.{IsHalvings, IsSizeFor, hashes_for, size_for}
+use Rattle.bloom_parts.specs.Sizing.{IsHalvings, IsSizeFor, IsTooLarge, hashes_for, half_up, size_for, HalfUpLaw, CoverLaw, NoneLaw, MostLaw, OneSizeLaw}
 use Rattle.bloom_parts.proofs.RootLemmas.{root-zero}
-use Rattle.bloom_parts.proofs.HalvingLemmas.{least-halvings, next-halvings, none-enough}
+use Rattle.bloom_parts.proofs.HalvingLemmas.{next-halvings}
 
--- roots 0, 16, 32, 48 and 63
-root-first : IsRoot 0 4294967296
-root-first = root-zero
+-- no number next to a root is a root
+is_root-cases : IsRoot 16 5107605667 × (IsRoot 16 5107605666 → ⊥) × (IsRoot 16 5107605668 → ⊥)
+is_root-cases = (
+  record { at_most = lit≤ tt; greatest = lit< tt },
+  λ is. omega (arith, is.greatest),
+  λ is. omega (arith, is.at_most),
+)
 
-root-quarter : IsRoot 16 5107605667
-root-quarter = record { at_most = lit≤ tt; greatest = lit< tt }
+-- many items and few, no items, no bits, the greatest numbers, and a quotient of two and a half
+hashes_for-cases : (hashes_for 1024 2 ≡ 355) × (hashes_for 1024 500 ≡ 1) × (hashes_for 64 1 ≡ 44)
+    × (hashes_for 64 0 ≡ 2 ^ 32 - 1) × (hashes_for 0 0 ≡ 1) × (hashes_for 0 5 ≡ 1)
+    × (hashes_for (2 ^ 64 - 1) 1 ≡ 2 ^ 32 - 1) × (hashes_for 64 (2 ^ 64 - 1) ≡ 1)
+    × (hashes_for 22517998136852480 6243314768165359 ≡ 3)
+hashes_for-cases = (refl, refl, refl, refl, refl, refl, refl, refl, refl)
 
-root-middle : IsRoot 32 6074000999
-root-middle = record { at_most = lit≤ tt; greatest = lit< tt }
-
-root-late : IsRoot 48 7223245205
-root-late = record { at_most = lit≤ tt; greatest = lit< tt }
-
-pub root-last : IsRoot 63 8497403929
-root-last = record { at_most = lit≤ tt; greatest = lit< tt }
-
--- the rate of a half has one halving
-pub halvings-half : IsHalvings 1 2 64
+-- the rate of a half has one halving, and a thousandth nearly ten
+halvings-half : IsHalvings 1 2 64
 halvings-half =
-    next-halvings 1 2 0 63 8497403929 root-last (lit< tt) (lit< tt) (2 ^ 32, root-zero, lit≤ tt)
+    next-halvings 1 2 0 63 8497403929 (record { at_most = lit≤ tt; greatest = lit< tt }) (lit< tt)
+    (lit< tt) (2 ^ 32, root-zero, lit≤ tt)
 
--- the rate of a thousandth has nearly ten halvings
 halvings-thousandth : IsHalvings 1 1000 638
 halvings-thousandth =
-    let before : IsRoot 61 8315322086 = record { at_most = lit≤ tt; greatest = lit< tt } in
-    let root : IsRoot 62 8405870006 = record { at_most = lit≤ tt; greatest = lit< tt } in
-    next-halvings 1 1000 9 61 8315322086 before (lit< tt) (lit< tt) (8405870006, root, lit≤ tt)
+    next-halvings 1 1000 9 61 8315322086 (record { at_most = lit≤ tt; greatest = lit< tt })
+    (lit< tt) (lit< tt)
+    (8405870006, record { at_most = lit≤ tt; greatest = lit< tt }, lit≤ tt)
 
--- the least rate has 64 halvings
-halvings-least : IsHalvings 1 18446744073709551615 4096
-halvings-least =
-    next-halvings 1 18446744073709551615 63 63 8497403929 root-last (lit< tt) (lit< tt)
-    (2 ^ 32, root-zero, lit≤ tt)
+-- the size for the rate of a half is that for 64 parts of a halving
+half-size : (items size : ℕ) → IsSizeFor items 1 2 size → size ≡ size_for items 64
+half-size items size (parts, is, same) =
+    let most : parts ≤ 64 = is.least 64 halvings-half.enough in
+    let least : 64 ≤ parts = halvings-half.least parts is.enough in
+    let whole : parts ≡ 64 = omega (arith, most, least) in
+    same ∙ ap (size_for items) whole
 
--- a rate above one has no halvings
-halvings-above : IsHalvings 3 2 0
-halvings-above =
-    least-halvings 3 2 0 (none-enough 3 2 (lit≤ tt)) (λ fewer below. absurd (omega arith))
+-- a thousand items at the rates of a half and a thousandth, no byte less, and no byte more
+is_size_for-cases : IsSizeFor 1000 1 2 1448 × IsSizeFor 1000 1 1000 14384 × IsSizeFor 1 1 2 64
+    × (IsSizeFor 1000 1 2 1440 → ⊥)
+    × (IsSizeFor 1000 1 2 1456 → ⊥)
+is_size_for-cases = (
+  (64, halvings-half, refl),
+  (638, halvings-thousandth, refl),
+  (64, halvings-half, refl),
+  λ is. omega (arith, half-size 1000 1440 is),
+  λ is. omega (arith, half-size 1000 1456 is),
+)
 
--- sizes for the rates of a half, the least rate, a thousandth and three halves
-pub size-half : IsSizeFor 1000 1 2 1448
-size-half = (64, halvings-half, refl)
+-- the first size of 2^64 bits, and the last that is less
+is_too_large-cases : IsTooLarge 12786308645202655227 1 2 × (IsTooLarge 12786308645202655226 1 2 → ⊥)
+is_too_large-cases = (
+  (2 ^ 64, (64, halvings-half, refl), lit≤ tt),
+  λ (size, is, large). omega (arith, half-size 12786308645202655226 size is, large),
+)
 
-size-one : IsSizeFor 1 1 2 64
-size-one = (64, halvings-half, refl)
+-- the law of rounding half up, at quotients by three
+from_half_up : HalfUpLaw → (x q : ℕ) → (q ≤ half_up x 3 → 2 * q * 3 ≤ 2 * x + 3)
+    × (2 * q * 3 ≤ 2 * x + 3 → q ≤ half_up x 3)
+from_half_up law x q = let both = law x 3 q (lit< tt) in (both.0, both.1)
 
-size-least : IsSizeFor 1 1 18446744073709551615 96
-size-least = (4096, halvings-least, refl)
+-- the halvings of two thirds cover them
+from_cover : CoverLaw → (parts : ℕ) → IsHalvings 2 3 parts → 3 ^ 64 ≤ 2 ^ parts * 2 ^ 64
+from_cover law parts is = law 2 3 parts is
 
-size-two : IsSizeFor 2 1 1000 64
-size-two = (638, halvings-thousandth, refl)
+-- a rate of one has no halvings
+from_none : NoneLaw → (parts : ℕ) → IsHalvings 3 3 parts → parts ≡ 0
+from_none law parts is = law 3 3 parts (lit≤ tt) is
 
-size-thousandth : IsSizeFor 1000 1 1000 14384
-size-thousandth = (638, halvings-thousandth, refl)
+-- the least rate has at most 64 whole halvings
+from_most : MostLaw → (parts : ℕ) → IsHalvings 1 (2 ^ 64 - 1) parts → parts ≤ 4096
+from_most law parts is = law 1 (2 ^ 64 - 1) parts (lit< tt) (lit< tt) is
 
-size-above : IsSizeFor 1000 3 2 64
-size-above = (0, halvings-above, refl)
-
-size-none : (k : ℕ) → size_for 0 k ≡ 64
-size-none k = omega arith
-
--- the last size below 2^64, and the first that isn't
-size-last : IsSizeFor 12786308645202655226 1 2 18446744073709551608
-size-last = (64, halvings-half, refl)
-
-pub size-first_too_large : IsSizeFor 12786308645202655227 1 2 18446744073709551616
-size-first_too_large = (64, halvings-half, refl)
-
--- the numbers of hashes for bits and items
-hashes-many : hashes_for 1024 2 ≡ 355
-hashes-many = refl
-
-hashes-one : hashes_for 1024 500 ≡ 1
-hashes-one = refl
-
-hashes-word : hashes_for 64 1 ≡ 44
-hashes-word = refl
-
-hashes-no_items : hashes_for 64 0 ≡ 4294967295
-hashes-no_items = refl
-
-hashes-nothing : hashes_for 0 0 ≡ 1
-hashes-nothing = refl
-
-hashes-no_bits : hashes_for 0 5 ≡ 1
-hashes-no_bits = refl
-
-hashes-least : hashes_for 64 18446744073709551615 ≡ 1
-hashes-least = refl
-
-hashes-greatest : hashes_for 18446744073709551615 1 ≡ 4294967295
-hashes-greatest = refl
-
--- a quotient of exactly two and a half is rounded up
-hashes-half : hashes_for 22517998136852480 6243314768165359 ≡ 3
-hashes-half = refl
+-- the size for a thousand items at the rate of a half is no other than 1448
+from_one_size : OneSizeLaw → (size : ℕ) → IsSizeFor 1000 1 2 size → size ≡ 1448
+from_one_size law size is = law 1000 1 2 size 1448 is is_size_for-cases.0
