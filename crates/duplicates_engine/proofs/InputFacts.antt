@@ -1,108 +1,123 @@
--- What is read of several inputs: of each relation cases that hold, and near ones that don't.
-use Rattle.std.proofs.Common.{◌≡◌, ℕ, List, [], ◌∷◌, length, get_or, Bool, true, false, Option, Some, None, refl, ap, arith}
+-- What is read of several inputs: of each relation cases that hold, and the nearest that don't.
+use Rattle.std.proofs.Common.{◌≡◌, ℕ, ◌+◌, ◌-◌, ◌^◌, min, List, [], ◌∷◌, ◌++◌, length, length-append, get_or, Option, Some, None, refl, ap, arith}
 use Rattle.std.specs.Prelude.{codes}
+use Rattle.std.specs.declared.io.ErrorKind.TheVariants as kind
 use Rattle.lines.specs.Lines.{lines_by}
-use Rattle.lines.specs.Reading.{Waiting}
-use Rattle.duplicates_engine.specs.Inputs.{Opens, NoneComes, lines_in, AreAllRead, AreFirstRead, AreReadToLong, IsFresh}
+use Rattle.duplicates_engine.specs.declared.fault.Fault.TheVariants.{TooLong, Memory, Full, Open, Input, Output}
+use Rattle.duplicates_engine.specs.Faults.{IsReadAt, IsWrittenAt}
+use Rattle.duplicates_engine.specs.Inputs.{Opens, NoneComes, lines_in, AreAllRead, AreFirstIn}
+use Rattle.duplicates_engine.proofs.Cases.{HoldsOfNone}
 
 -- two inputs, of which the first lacks the end of its last line
 abbrev inputs : List (List ℕ)
 inputs = codes "a\nb" ∷ codes "c\n" ∷ []
 
--- the last line of an input ends with it
-in-order : lines_in 10 inputs ≡ codes "a" ∷ codes "b" ∷ codes "c" ∷ []
-unfolding lines_by
-in-order = refl
+-- how many are known
+abbrev count : {A : Type 0} → Option (List A) → ℕ
+count None = 0
+count (Some known) = length known
 
--- where a zero byte ends a line, each input has one
-by-zero : lines_in 0 inputs ≡ codes "a\nb" ∷ codes "c\n" ∷ []
-unfolding lines_by
-by-zero = refl
-
--- the first input is opened, and the second comes
+-- the first input is opened, and the second comes: the first isn't passed over, nor does it come
+-- again. Where none comes, none is opened
 opens : Opens (Some inputs) (Some (codes "c\n" ∷ [])) (Some (codes "a\nb"))
-opens = (refl, refl)
+    × (Opens (Some inputs) (Some (codes "c\n" ∷ [])) (Some (codes "c\n")) → ⊥)
+    × (Opens (Some inputs) (Some inputs) (Some (codes "a\nb")) → ⊥)
+    × (Opens (Some []) (Some []) (Some []) → ⊥)
+opens = (
+  (refl, refl),
+  λ is. omega (arith, ap count is.1),
+  λ is. omega (arith, ap count is.0),
+  λ is. is,
+)
 
--- the first isn't passed over
-opens-second : Opens (Some inputs) (Some []) (Some (codes "c\n")) → ⊥
-opens-second is = let more : 2 ≡ 3 = ap length-known is.1 in omega (arith, more)
-  where
-    length-known : Option (List ℕ) → ℕ
-    length-known None = 0
-    length-known (Some bytes) = length bytes
+-- none comes where none is left, and none comes later
+none_comes : NoneComes (Some []) (Some [])
+    × (NoneComes (Some inputs) (Some []) → ⊥)
+    × (NoneComes (Some []) (Some inputs) → ⊥)
+none_comes = (
+  (refl, refl),
+  λ is. omega (arith, ap length is.0),
+  λ is. omega (arith, ap count is.1),
+)
 
--- where none comes, none is opened
-opens-none : Opens (Some []) (Some []) (Some []) → ⊥
-opens-none is = is
-
-none : NoneComes (Some []) (Some [])
-none = (refl, refl)
-
-none-not : NoneComes (Some inputs) (Some []) → ⊥
-none-not is = let more : 2 ≡ 0 = ap length is.0 in omega (arith, more)
-
--- all lines of both inputs
-all : AreAllRead 10 (Some inputs) (Some []) (codes "a" ∷ codes "b" ∷ codes "c" ∷ [])
+-- all lines of both inputs, where the last line of an input ends with it: no input is left out, and
+-- none comes any more
+all_read : AreAllRead 10 (Some inputs) (Some []) (codes "a" ∷ codes "b" ∷ codes "c" ∷ [])
+    × (AreAllRead 10 (Some inputs) (Some []) (codes "a" ∷ codes "b" ∷ []) → ⊥)
+    × (AreAllRead 10 (Some []) (Some inputs) [] → ⊥)
+    × AreAllRead 0 (Some inputs) (Some []) inputs
 unfolding lines_by
-all = record { are_lines = refl; none_left = refl }
-
--- the last input isn't left out
-all-not : AreAllRead 10 (Some inputs) (Some []) (codes "a" ∷ codes "b" ∷ []) → ⊥
-unfolding lines_by
-all-not is = let more : 3 ≡ 2 = ap length is.are_lines in omega (arith, more)
-
--- the first lines, over the end of an input
-first : AreFirstRead 10 (Some inputs) (codes "a" ∷ codes "b" ∷ [])
-unfolding lines_by
-first = record { later = codes "c" ∷ []; cut = refl }
+all_read = (
+  record { are_lines = refl; none_left = refl },
+  λ is. omega (arith, ap length is.are_lines),
+  λ is. omega (arith, ap count is.none_left),
+  record { are_lines = refl; none_left = refl },
+)
 
 -- the second line isn't the first
-first-not : AreFirstRead 10 (Some inputs) (codes "b" ∷ []) → ⊥
+not-first : AreFirstIn 10 inputs (codes "b" ∷ []) → ⊥
 unfolding lines_by
-first-not is =
-    let letter : 97 ≡ 98 = ap (λ l. get_or (get_or l 0 []) 0 0) is.cut in omega (arith, letter)
+not-first is = omega (arith, ap (λ l. get_or (get_or l 0 []) 0 0) is.cut)
 
--- the second line of the second input is too long, and its number is 2
-long : AreReadToLong 10 1 2 (Some (codes "a\nb" ∷ codes "c\ndd\n" ∷ []))
+-- up to a fault the first lines were read, over the end of an input, and not the second alone
+reached : IsReadAt 10 3 Memory (Some inputs) (codes "a" ∷ codes "b" ∷ [])
+    × HoldsOfNone (λ fault. IsReadAt 10 3 fault (Some inputs) (codes "b" ∷ []))
+    (Memory ∷ Full ∷ Open kind.NotFound ∷ Input kind.BrokenPipe ∷ Output kind.BrokenPipe ∷ [])
+unfolding lines_by
+reached = (
+  record { later = codes "c" ∷ []; cut = refl },
+  (not-first, (not-first, (not-first, (not-first, (not-first, tt))))),
+)
+
+-- where one input comes, its second line doesn't have number 1
+not-number-one : (done rest earlier before : List (List ℕ)) (only input : List ℕ)
+    → only ∷ [] ≡ done ++ input ∷ rest → lines_in 10 done ≡ earlier
+    → codes "c" ∷ [] ≡ earlier ++ before → 1 ≡ min (length before + 1) (2 ^ 64 - 1) → ⊥
+not-number-one [] rest earlier before only input cut are lines number =
+    omega (arith, ap length lines, length-append earlier before, ap length are, number)
+not-number-one (bytes ∷ done) rest earlier before only input cut are lines number =
+    omega (arith, ap length cut, length-append done (input ∷ rest))
+
+-- the second line of the second input is too long, and its number is 2: not 1, and it stays at
+-- 2^64 - 1
+reached-long : IsReadAt 10 1 (TooLong 2) (Some (codes "a\nb" ∷ codes "c\ndd\n" ∷ []))
     (codes "a" ∷ codes "b" ∷ codes "c" ∷ [])
+    × (IsReadAt 10 1 (TooLong 1) (Some (codes "c\ndd\n" ∷ [])) (codes "c" ∷ []) → ⊥)
+    × ((lines : List (List ℕ)) → IsReadAt 10 1 (TooLong (2 ^ 64)) None lines → ⊥)
 unfolding lines_by
-long = record {
-  earlier = codes "a" ∷ codes "b" ∷ [];
-  before = codes "c" ∷ [];
-  cut = refl;
-  is_number = refl;
-  is_long = record {
-    done = codes "a\nb" ∷ [];
-    input = codes "c\ndd\n";
-    rest = [];
+reached-long = (
+  record {
+    earlier = codes "a" ∷ codes "b" ∷ [];
+    before = codes "c" ∷ [];
     cut = refl;
-    are_earlier = refl;
-    is_long = record { long = codes "dd"; later = []; cut = refl; is_long = omega arith };
-  };
-}
+    is_number = refl;
+    is_long = record {
+      done = codes "a\nb" ∷ [];
+      input = codes "c\ndd\n";
+      rest = [];
+      cut = refl;
+      are_earlier = refl;
+      is_long = record { long = codes "dd"; later = []; cut = refl; is_long = omega arith };
+    };
+  },
+  λ is. not-number-one is.is_long.done is.is_long.rest is.earlier is.before (codes "c\ndd\n")
+      is.is_long.input is.is_long.cut is.is_long.are_earlier is.cut is.is_number,
+  λ lines is. omega (arith, is.is_number),
+)
 
--- no line is number 0
-long-none : AreReadToLong 10 1 0 None [] → ⊥
-long-none is = omega (arith, is.is_number)
+-- a beginning isn't all of a text
+not-all : codes "a" ≡ codes "a\n" → ⊥
+not-all is = omega (arith, ap length is)
 
--- a reader of lines of at most nine bytes, with what it read and didn't give yet
-abbrev reader : List ℕ → Bool → Waiting
-reader bytes ended = record { line = []; bytes = bytes; ended = ended; longest = 9 }
-
--- nothing was read yet
-fresh : IsFresh 9 (reader [] false) 0
-fresh = record { empty = refl; untold = refl; has_longest = refl; none_read = refl }
-
--- no byte, no end and no line was
-fresh-byte : IsFresh 9 (reader (97 ∷ []) false) 0 → ⊥
-fresh-byte is = let wrong : 1 ≡ 0 = ap length is.empty in omega (arith, wrong)
-
-fresh-end : IsFresh 9 (reader [] true) 0 → ⊥
-fresh-end is = let wrong : true ≡ false = is.untold in cc
-
-fresh-line : IsFresh 9 (reader [] false) 1 → ⊥
-fresh-line is = let wrong : 1 ≡ 0 = is.none_read in omega (arith, wrong)
-
--- a line may have as many bytes as was asked for
-fresh-longest : IsFresh 8 (reader [] false) 0 → ⊥
-fresh-longest is = let wrong : 9 ≡ 8 = is.has_longest in omega (arith, wrong)
+-- at a fault of the writer a beginning of the text was written, and at any other all of it
+written : IsWrittenAt (Output kind.BrokenPipe) (codes "a\n") (codes "a")
+    × (IsWrittenAt (Output kind.BrokenPipe) (codes "a\n") (codes "b") → ⊥)
+    × IsWrittenAt Memory (codes "a\n") (codes "a\n")
+    × HoldsOfNone (λ fault. IsWrittenAt fault (codes "a\n") (codes "a"))
+    (Memory ∷ Full ∷ Open kind.NotFound ∷ Input kind.BrokenPipe ∷ TooLong 2 ∷ [])
+written = (
+  record { rest = 10 ∷ []; cut = refl },
+  λ is. omega (arith, ap (λ l. get_or l 0 0) is.cut),
+  refl,
+  (not-all, (not-all, (not-all, (not-all, (not-all, tt))))),
+)

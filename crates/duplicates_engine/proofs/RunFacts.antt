@@ -1,127 +1,105 @@
--- Whole runs, and runs up to a fault: of each relation a case that holds, and near ones that don't.
-use Rattle.std.proofs.Common.{◌≡◌, ◌≤◌, ℕ, ◌-◌, ◌^◌, min, Bool, false, List, [], ◌∷◌, ◌++◌, length, Option, None, Some, refl, sym, ◌∙◌, ap, subst, arith}
-use Rattle.std.proofs.lemmas.List.Elements.{All-nil}
+-- Whole runs, and runs up to a fault: of each relation cases that hold, and the nearest that don't.
+use Rattle.std.proofs.Common.{◌≡◌, ◌≤◌, ℕ, Bool, List, [], ◌∷◌, ◌++◌, length, get_or, Option, None, Some, refl, sym, ◌∙◌, ap, arith}
+use Rattle.std.proofs.lemmas.List.Elements.{All-from_recursion, All-nil}
 use Rattle.std.specs.Prelude.{codes}
 use Rattle.lines.specs.Lines.{lines_by}
-use Rattle.lines.specs.Reading.{AreShort}
 use Rattle.bloom_growing.specs.declared.growing.error.GrowingError.{GrowingError}
 use Rattle.std.specs.declared.io.ErrorKind.{ErrorKind}
+use Rattle.duplicates_engine.specs.declared.fault.Fault.{Fault}
 use Rattle.duplicates_engine.specs.declared.fault.Fault.TheVariants.{Full, Memory}
-use Rattle.duplicates_engine.specs.declared.options.Options.{Options}
 use Rattle.duplicates_engine.specs.declared.options.Written.TheVariants.{New}
-use Rattle.duplicates_engine.specs.declared.tally.Total.{Total}
+use Rattle.duplicates_engine.specs.declared.tally.Tally.{Tally}
 use Rattle.duplicates_engine.specs.Inputs.{lines_in}
-use Rattle.duplicates_engine.specs.Kept.{text_of, KeepsNew, KeepsUntil, EndsEarly}
+use Rattle.duplicates_engine.specs.Kept.{text_of, KeepsNew, EndsEarly}
+use Rattle.duplicates_engine.proofs.Cases.{asked, lines}
+use Rattle.duplicates_engine.proofs.SieveFacts.{keeps, recalls_none, sifted-all}
 use Rattle.duplicates_engine.proofs.SiftLemmas.{sifted-nil}
 
--- a sieve of which nothing is said
-abbrev span : Unit {0} → Option ℕ
-span sieve = None
+-- a sieve that tells of a line while none other came behind it
+abbrev span : List (List ℕ) → Option ℕ
+span sieve = Some 1
 
-abbrev recalls : Unit {0} → List (List ℕ) → Type 0
-recalls sieve lines = ⊥
+-- a whole run with such a sieve, which called new all that it sifted, and with these counts
+abbrev Kept : ℕ → List (List ℕ) → List (List ℕ) → List (List ℕ) → List ℕ → Tally → ℕ → Type 0
+Kept longest come left sieve text tally longer =
+    KeepsNew span recalls_none keeps 10 (asked longest New) (Some come) (Some left) [] sieve
+    (Some []) (Some text) None None None None (record { tally = tally; longer = longer })
 
-abbrev sifts : Unit {0} → List ℕ → Bool → Unit {0} → Type 0
-sifts old line reply new = reply ≡ false
-
-abbrev asked : Options
-asked = record { longest = 1; skips_longer = false; written = New; most = None }
-
--- nothing was counted
-abbrev none_read : Total
-none_read = record { tally = record { read = 0; held = 0 }; longer = 0 }
-
--- a run over nothing
-keeps : KeepsNew span recalls sifts 10 asked (Some []) (Some []) tt tt (Some []) (Some []) None None
-    None None none_read
-keeps = record {
-  lines = [];
-  replies = [];
-  sifted = sifted-nil span recalls sifts 1 tt;
-  text = refl;
-  whole = record { are_lines = refl; none_left = refl };
-  short = All-nil (λ line. length line ≤ 1);
-  counts = record { read = refl; held = refl };
-  longer = refl;
-  tells = tt;
-  warns = refl;
-}
-
-module _ (total : Total) (to : Option (List ℕ)) where
-  -- a whole run leaves no input
-  keeps-left : KeepsNew span recalls sifts 10 asked (Some (codes "a" ∷ [])) (Some (codes "b" ∷ []))
-      tt tt
-      (Some []) to None None None None total → ⊥
-  keeps-left run = cc run.whole.none_left
-
-  -- a whole run has no line that is too long
-  keeps-long : KeepsNew span recalls sifts 10 asked (Some (codes "ab\n" ∷ [])) (Some []) tt tt
-      (Some []) to None None None None total → ⊥
-  unfolding lines_by
-  keeps-long run =
-      let lines : codes "ab" ∷ [] ≡ run.lines = run.whole.are_lines in
-      let short = subst (AreShort 1) (sym lines) run.short in
-      omega (arith, short 0 [] (omega arith))
-
--- a run over one line counts it
-keeps-count : KeepsNew span recalls sifts 10 asked (Some (codes "a\n" ∷ [])) (Some []) tt tt (Some
-    [])
-    (Some (codes "a\n")) None None None None none_read → ⊥
+-- three lines are read and written, and all are counted; no input is left, and no line is longer
+-- than a line may be
+kept : Kept 9 (codes "a\nb\n" ∷ codes "a" ∷ []) [] lines (codes "a\nb\na\n")
+    (record { read = 3; held = 0 }) 0
+    × (Kept 9 (codes "a\nb\n" ∷ codes "a" ∷ []) [] lines (codes "a\nb\na\n")
+    (record { read = 2; held = 0 }) 0 → ⊥)
+    × (Kept 9 (codes "a\nb\n" ∷ codes "a" ∷ []) [] lines (codes "a\nb\na\n")
+    (record { read = 3; held = 0 }) 1 → ⊥)
+    × (Kept 9 [] (codes "a" ∷ []) [] [] (record { read = 0; held = 0 }) 0 → ⊥)
+    × (Kept 0 (codes "a" ∷ []) [] (codes "a" ∷ []) (codes "a\n") (record { read = 1; held = 0 }) 0
+    → ⊥)
 unfolding lines_by
-keeps-count run =
-    let lines : codes "a" ∷ [] ≡ run.lines = run.whole.are_lines in
-    let one : length run.replies ≡ 1 = run.sifted.count ∙ ap length (sym lines) in
-    let none : 0 ≡ min (length run.replies) (2 ^ 64 - 1) = run.counts.read in
-    omega (arith, one, none)
-
--- a run that was out of memory
-until : KeepsUntil span recalls sifts 10 asked (Some (codes "a\n" ∷ [])) tt tt (Some []) (Some [])
-    None None
-    None None Memory
-until = record {
-  lines = [];
-  replies = [];
-  sifted = sifted-nil span recalls sifts 1 tt;
-  written = [];
-  text = refl;
-  is_text = refl;
-  reached = record { later = lines_in 10 (codes "a\n" ∷ []); cut = refl };
-  short = All-nil (λ line. length line ≤ 1);
-  tells = tt;
-  warns = refl;
-}
-
--- a run writes no line that it didn't read
-until-not : KeepsUntil span recalls sifts 10 asked (Some []) tt tt (Some []) (Some (codes "a\n"))
-    None None
-    None None Memory → ⊥
-until-not run = none run.lines run.replies run.reached.later run.reached.cut (run.text
-    ∙ run.is_text)
-  where
-    none : (lines : List (List ℕ)) (replies : List Bool) (later : List (List ℕ))
-        → [] ≡ lines ++ later → codes "a\n" ≡ text_of 10 asked lines replies → ⊥
-    none [] replies later cut text = let more : 2 ≡ 0 = ap length text in omega (arith, more)
-    none (line ∷ lines) replies later cut text = cc cut
+kept = (
+  record {
+    lines = lines;
+    replies = _;
+    sifted = sifted-all;
+    text = refl;
+    whole = record { are_lines = refl; none_left = refl };
+    short = All-from_recursion (λ line. length line ≤ 9) lines
+        (omega arith, (omega arith, (omega arith, tt)));
+    counts = record { read = refl; held = refl };
+    longer = refl;
+    tells = tt;
+    warns = refl;
+  },
+  λ run. omega (arith, run.sifted.count, ap length run.whole.are_lines, run.counts.read),
+  λ run. (let none : 1 ≡ 0 = (rw (sym run.whole.are_lines) at run.longer) in omega (arith, none)),
+  λ run. cc (run.whole.none_left),
+  λ run. (let first : codes "a" ≡ get_or run.lines 0 [] =
+      ap (λ l. get_or l 0 []) run.whole.are_lines in
+      let one : 1 ≡ length run.lines = ap length run.whole.are_lines in
+      omega (arith, ap length first, run.short 0 [] (omega (arith, one)))),
+)
 
 -- a sieve that refuses nothing, and inputs that open
-abbrev refuses : Unit {0} → List ℕ → GrowingError → Type 0
+abbrev refuses : List (List ℕ) → List ℕ → GrowingError → Type 0
 refuses sieve line error = ⊥
 
 abbrev fails : Unit {0} → Unit {0} → ErrorKind → Type 0
 fails old new kind = ⊥
 
--- that run ended early, and for no other reason
-ends : EndsEarly span recalls sifts refuses fails 10 asked (Some (codes "a\n" ∷ [])) tt tt tt (Some
-    [])
-    (Some []) None None None None Memory
-ends = record { until = until; caused = tt }
+-- a run that ended early, before it sifted a line
+abbrev Ended : List (List ℕ) → List ℕ → Fault → Type 0
+Ended come text fault =
+    EndsEarly span recalls_none keeps refuses fails 10 (asked 1 New) (Some come) tt [] []
+    (Some []) (Some text) None None None None fault
 
-ends-full : EndsEarly span recalls sifts refuses fails 10 asked (Some (codes "a\n" ∷ [])) tt tt tt
-    (Some [])
-    (Some []) None None None None Full → ⊥
-ends-full run = run.caused.refusal.refused
-
--- it wrote no line that it didn't read
-ends-not : EndsEarly span recalls sifts refuses fails 10 asked (Some []) tt tt tt (Some [])
-    (Some (codes "a\n")) None None None None Memory → ⊥
-ends-not run = until-not run.until
+-- it may be out of memory, and isn't full where its sieve refuses nothing; and it wrote no line that
+-- it didn't read
+ended : Ended (codes "a\n" ∷ []) [] Memory
+    × (Ended (codes "a\n" ∷ []) [] Full → ⊥)
+    × (Ended [] (codes "a\n") Memory → ⊥)
+ended = (
+  record {
+    until = record {
+      lines = [];
+      replies = [];
+      sifted = sifted-nil span recalls_none keeps 1 [];
+      written = [];
+      text = refl;
+      is_text = refl;
+      reached = record { later = lines_in 10 (codes "a\n" ∷ []); cut = refl };
+      short = All-nil (λ line. length line ≤ 1);
+      tells = tt;
+      warns = refl;
+    };
+    caused = tt;
+  },
+  λ run. run.caused.refusal.refused,
+  λ run. none run.until.lines run.until.replies run.until.reached.later run.until.reached.cut
+      (run.until.text ∙ run.until.is_text),
+)
+  where
+    none : (lines : List (List ℕ)) (replies : List Bool) (later : List (List ℕ))
+        → [] ≡ lines ++ later → codes "a\n" ≡ text_of 10 (asked 1 New) lines replies → ⊥
+    none [] replies later cut text = omega (arith, ap length text)
+    none (line ∷ lines) replies later cut text = cc cut

@@ -1,149 +1,126 @@
--- What reading lines promises: of each relation a case that holds, and a near one that doesn't.
-use Rattle.std.proofs.Common.{◌≡◌, ℕ, true, false, List, [], ◌∷◌, length, get_or, Option, Some, refl, sym, ◌∙◌, ap, arith, inl, inr}
+-- What reading lines promises: of each relation cases that hold, and the nearest that don't.
+use Rattle.std.proofs.Common.{◌≡◌, ℕ, Bool, true, false, List, [], ◌∷◌, length, length-append, append-nil, get_or, None, Some, refl, sym, ◌∙◌, ap, arith, inl, inr}
 use Rattle.std.specs.Prelude.{codes}
 use Rattle.std.proofs.lemmas.List.{append_cancel_right}
 use Rattle.lines.specs.declared.reader.Next.TheVariants.{End, Line, TooLong}
-use Rattle.lines.specs.Lines.{lines_by, lines_of, has_no_end}
-use Rattle.lines.specs.Reading.{KnowsEnd, TakesLine, TakesLong, Ends, NextLine, has_next, IsReadWhole, IsReadFrom, IsReadToLong}
+use Rattle.lines.specs.Filling.{GivesFewer}
+use Rattle.lines.specs.Lines.{lines_by, has_no_end_by}
+use Rattle.lines.specs.Losing.{LosesPart}
+use Rattle.lines.specs.Reading.{Waiting, IsReadToLong, IsReadWhole, KnowsEnd, NextLineBy, has_next_by, left_of}
 use Rattle.lines.proofs.ReadingLemmas.{taken-ended}
 
--- a list with a number isn't empty
-not_nil : (x : ℕ) (xs : List ℕ) → x ∷ xs ≡ [] → ⊥
-not_nil x xs none = cc
+-- a reader of lines with these bytes waiting
+abbrev waits : Bool → ℕ → List ℕ → Waiting
+waits ended longest bytes =
+    record { line = []; bytes = bytes; ended = ended; longest = longest }
 
--- a reader that told its end has nothing left
+-- the bytes that wait come before those that the reader has, which may be unknown
+left : (left_of (waits false 3 (1 ∷ [])) (Some (2 ∷ [])) ≡ Some (1 ∷ 2 ∷ []))
+    × (left_of (waits false 3 (1 ∷ [])) None ≡ None)
+left = (refl, refl)
+
+-- a reader that told its end has nothing left; one that didn't may have a byte
 knows_end : KnowsEnd true (Some [])
-knows_end _ = refl
+    × (KnowsEnd true (Some (1 ∷ [])) → ⊥)
+    × KnowsEnd false (Some (1 ∷ []))
+knows_end = (λ _. refl, λ knows. cc (knows refl), λ told. cc (told))
 
--- a reader with a byte left has told no end
-knows_end-not : KnowsEnd true (Some (1 ∷ [])) → ⊥
-knows_end-not knows = not_nil _ _ (knows refl)
+-- the next line is told where its end waits, where more bytes wait than a line may have, or where
+-- the input has ended; not by as many bytes as a line may have
+has_next : (has_next_by 10 (waits false 3 (codes "a\n")) ≡ true)
+    × (has_next_by 10 (waits false 3 (codes "abc")) ≡ false)
+    × (has_next_by 10 (waits false 2 (codes "abc")) ≡ true)
+    × (has_next_by 10 (waits true 3 []) ≡ true)
+    × (has_next_by 0 (waits false 3 (codes "a\n")) ≡ false)
+has_next = (refl, refl, refl, refl, refl)
 
--- a line is taken with its end
-takes_line : TakesLine (Some (codes "i 1\nx\n")) (Some (codes "x\n")) (codes "i 1")
-takes_line = taken-ended refl refl
-
--- a line isn't taken while its end is left
-takes_line-not : TakesLine (Some (codes "i 1\nx\n")) (Some (codes "\nx\n")) (codes "i 1") → ⊥
+-- a line of three bytes is taken with its end where a line may have three, and not where it may
+-- have two, nor without its end, nor is another line told
+next_line : NextLineBy 0 3 (Some (97 ∷ 10 ∷ 98 ∷ 0 ∷ 99 ∷ [])) (Some (99 ∷ []))
+    (97 ∷ 10 ∷ 98 ∷ []) Line
+    × (NextLineBy 0 2 (Some (97 ∷ 10 ∷ 98 ∷ 0 ∷ 99 ∷ [])) (Some (99 ∷ []))
+    (97 ∷ 10 ∷ 98 ∷ []) Line → ⊥)
+    × (NextLineBy 0 3 (Some (97 ∷ 0 ∷ 99 ∷ [])) (Some (0 ∷ 99 ∷ [])) (97 ∷ []) Line → ⊥)
+    × (NextLineBy 0 3 (Some (97 ∷ 98 ∷ 0 ∷ [])) (Some []) (97 ∷ []) Line → ⊥)
 unfolding lines_by
-takes_line-not takes =
-    let taken : codes "i 1" ≡ takes.taken =
-    append_cancel_right (codes "i 1") takes.taken (codes "\nx\n") takes.cut in
-    elim takes.last [
-      | inl is ↦ (let cut : lines_of (codes "i 1\nx\n") ≡ codes "i 1" ∷ [] ∷ codes "x" ∷ [] =
-          (rw (sym taken) at is) (codes "\nx\n") in cc)
-      | inr none ↦ (let left : codes "\nx\n" ≡ [] = none in cc)
-    ]
+next_line = (
+  record { takes = taken-ended refl refl; short = omega arith },
+  λ is. omega (arith, is.short),
+  λ is. (let taken : 97 ∷ [] ≡ is.takes.taken =
+      append_cancel_right (97 ∷ []) is.takes.taken (0 ∷ 99 ∷ []) is.takes.cut in
+      elim is.takes.last [
+        | inl ended ↦ (let cut : lines_by 0 (97 ∷ 0 ∷ 99 ∷ []) ≡ (97 ∷ []) ∷ [] ∷ (99 ∷ []) ∷ [] =
+            (rw (sym taken) at ended) (0 ∷ 99 ∷ []) in cc)
+        | inr none ↦ (let left : 0 ∷ 99 ∷ [] ≡ [] = none in cc)
+      ]),
+  λ is. (let taken : 97 ∷ 98 ∷ 0 ∷ [] ≡ is.takes.taken =
+      is.takes.cut ∙ append-nil is.takes.taken in
+      let line : (97 ∷ 98 ∷ []) ∷ [] ≡ (97 ∷ []) ∷ [] = (rw (sym taken) at is.takes.is_line) in
+      omega (arith, ap (λ l. length (get_or l 0 [])) line)),
+)
 
--- nothing is left
-ends : Ends (Some []) (Some [])
-ends = record { nothing = refl; end = refl }
+-- the end comes where nothing is left: no byte was taken, and none may be left
+next_end : NextLineBy 10 3 (Some []) (Some []) [] End
+    × (NextLineBy 10 3 (Some (10 ∷ [])) (Some []) [] End → ⊥)
+    × (NextLineBy 10 3 (Some (10 ∷ [])) (Some (10 ∷ [])) [] End → ⊥)
+next_end = (
+  record { nothing = refl; end = refl },
+  λ is. cc (is.nothing),
+  λ is. (let left : 10 ∷ [] ≡ [] = is.end in cc),
+)
 
--- the end isn't told where a byte was taken
-ends-not : Ends (Some (10 ∷ [])) (Some []) → ⊥
-ends-not is = not_nil _ _ is.nothing
+-- a line is too long of which three bytes were taken where a line may have two, and not where it
+-- may have three, nor if one of them ends it
+next_long : NextLineBy 10 2 (Some (codes "abcd\n")) (Some (codes "d\n")) [] TooLong
+    × (NextLineBy 10 3 (Some (codes "abcd\n")) (Some (codes "d\n")) [] TooLong → ⊥)
+    × (NextLineBy 10 1 (Some (codes "a\nb")) (Some (codes "b")) [] TooLong → ⊥)
+next_long = (
+  record { taken = codes "abc"; cut = refl; inside = refl; long = omega arith },
+  λ is. (let taken = append_cancel_right (codes "abc") is.taken (codes "d\n") is.cut in
+      omega (arith, ap length taken, is.long)),
+  λ is. (let taken = append_cancel_right (codes "a\n") is.taken (codes "b") is.cut in
+      let inside : has_no_end_by 10 (codes "a\n") ≡ true =
+      ap (has_no_end_by 10) taken ∙ is.inside in
+      cc),
+)
 
--- three bytes of a line were taken, which are more than two
-takes_long : TakesLong 2 (Some (codes "abcd\n")) (Some (codes "d\n"))
-takes_long = record { taken = codes "abc"; cut = refl; inside = refl; long = omega arith }
+-- after an error the first byte of a line may be lost, and its end may not
+loses : LosesPart 10 (Some (codes "ab\nc")) (Some (codes "b\nc"))
+    × (LosesPart 10 (Some (codes "a\nc")) (Some (codes "c")) → ⊥)
+loses = (
+  record { lost = codes "a"; taken = refl; inside = refl },
+  λ part. (let lost = append_cancel_right (codes "a\n") part.lost (codes "c") part.taken in
+      let inside : has_no_end_by 10 (codes "a\n") ≡ true =
+      ap (has_no_end_by 10) lost ∙ part.inside in
+      cc),
+)
 
--- three bytes aren't more than three
-takes_long-not : TakesLong 3 (Some (codes "abcd\n")) (Some (codes "d\n")) → ⊥
-takes_long-not is =
-    let taken : codes "abc" ≡ is.taken =
-    append_cancel_right (codes "abc") is.taken (codes "d\n") is.cut in
-    let count : 3 ≡ length is.taken = ap length taken in
-    omega (arith, count, is.long)
+-- after an error two bytes may be lost where there was room for three, and not where for two
+fewer : GivesFewer 3 (Some (1 ∷ 2 ∷ 3 ∷ [])) (Some (3 ∷ []))
+    × (GivesFewer 2 (Some (1 ∷ 2 ∷ 3 ∷ [])) (Some (3 ∷ [])) → ⊥)
+fewer = (
+  record { given = 1 ∷ 2 ∷ []; taken = refl; few = omega arith },
+  λ is. omega (arith, ap length is.taken ∙ length-append is.given (3 ∷ []), is.few),
+)
 
--- bytes with an end between aren't of one line
-takes_long-end : TakesLong 1 (Some (codes "a\nb")) (Some (codes "b")) → ⊥
-takes_long-end is =
-    let taken : codes "a\n" ≡ is.taken =
-    append_cancel_right (codes "a\n") is.taken (codes "b") is.cut in
-    let inside : has_no_end (codes "a\n") ≡ true = ap has_no_end taken ∙ is.inside in
-    cc
-
--- an end waits
-told : has_next (record { line = []; bytes = codes "a\n"; ended = false; longest = 3 }) ≡ true
-told = refl
-
--- no end waits among as many bytes as a line may have
-told-not : has_next (record { line = []; bytes = codes "abc"; ended = false; longest = 3 }) ≡ false
-told-not = refl
-
--- more bytes wait than a line may have
-told-long : has_next (record { line = []; bytes = codes "abc"; ended = false; longest = 2 }) ≡ true
-told-long = refl
-
--- the input has ended
-told-end : has_next (record { line = []; bytes = []; ended = true; longest = 3 }) ≡ true
-told-end = refl
-
--- the longest line comes next
-next_line : NextLine 3 (Some (codes "abc\nx\n")) (Some (codes "x\n")) (codes "abc") Line
-next_line = record { takes = taken-ended refl refl; short = omega arith }
-
--- a line that is longer than a line may be isn't good
-next_line-not : NextLine 2 (Some (codes "abc\nx\n")) (Some (codes "x\n")) (codes "abc") Line → ⊥
-next_line-not is = omega (arith, is.short)
-
--- the end comes next
-next_end : NextLine 3 (Some []) (Some []) [] End
-next_end = ends
-
--- the end doesn't come while a byte is left
-next_end-not : NextLine 3 (Some (10 ∷ [])) (Some (10 ∷ [])) [] End → ⊥
-next_end-not is = not_nil _ _ is.end
-
--- a line that is too long comes next
-next_long : NextLine 2 (Some (codes "abcd\n")) (Some (codes "d\n")) [] TooLong
-next_long = takes_long
-
--- a line isn't too long of which nothing was taken
-next_long-not : NextLine 2 (Some (codes "abcd\n")) (Some (codes "abcd\n")) [] TooLong → ⊥
-next_long-not is =
-    let taken : [] ≡ is.taken = append_cancel_right [] is.taken (codes "abcd\n") is.cut in
-    let count : 0 ≡ length is.taken = ap length taken in
-    omega (arith, count, is.long)
-
--- these are all lines
+-- a program that read all lines has left out none, and its reader has no byte left
 whole : IsReadWhole (Some (codes "a\nb")) (Some []) (codes "a" ∷ codes "b" ∷ [])
+    × (IsReadWhole (Some (codes "a\nb")) (Some []) (codes "a" ∷ []) → ⊥)
+    × (IsReadWhole (Some (codes "a\nb")) (Some (98 ∷ [])) (codes "a" ∷ codes "b" ∷ []) → ⊥)
 unfolding lines_by
-whole = record { are_lines = refl; none_left = refl }
+whole = (
+  record { are_lines = refl; none_left = refl },
+  λ is. (let lines : codes "a" ∷ codes "b" ∷ [] ≡ codes "a" ∷ [] = is.are_lines in cc),
+  λ is. cc (is.none_left),
+)
 
--- a reader that has a byte left isn't read to its end
-whole-left : IsReadWhole (Some (codes "a\nb")) (Some (98 ∷ [])) (codes "a" ∷ codes "b" ∷ []) → ⊥
-whole-left is = let left : ◌≡◌ {A = Option (List ℕ)} (Some (98 ∷ [])) (Some []) = is.none_left in cc
-
--- a line may not be left out
-whole-lines : IsReadWhole (Some (codes "a\nb")) (Some []) (codes "a" ∷ []) → ⊥
-unfolding lines_by
-whole-lines is =
-    let lines : codes "a" ∷ codes "b" ∷ [] ≡ codes "a" ∷ [] = is.are_lines in cc
-
--- this is the first line
-from : IsReadFrom (Some (codes "a\nb")) (codes "a" ∷ [])
-unfolding lines_by
-from = record { later = codes "b" ∷ []; cut = refl }
-
--- the second line isn't the first
-from-not : IsReadFrom (Some (codes "a\nb")) (codes "b" ∷ []) → ⊥
-unfolding lines_by
-from-not is =
-    let lines : codes "a" ∷ codes "b" ∷ [] ≡ codes "b" ∷ is.later = is.cut in
-    let first : 97 ≡ 98 = ap (λ l. get_or (get_or l 0 []) 0 0) lines in
-    omega (arith, first)
-
--- the line after the first has four bytes
+-- the line behind the first has four bytes, which are more than three, and not more than four
 to_long : IsReadToLong 3 (Some (codes "a\nbcde\n")) (codes "a" ∷ [])
+    × (IsReadToLong 4 (Some (codes "a\nbcde\n")) (codes "a" ∷ []) → ⊥)
 unfolding lines_by
-to_long = record { long = codes "bcde"; later = []; cut = refl; is_long = omega arith }
-
--- the line of four bytes isn't longer than four
-to_long-not : IsReadToLong 4 (Some (codes "a\nbcde\n")) (codes "a" ∷ []) → ⊥
-unfolding lines_by
-to_long-not is =
-    let lines : codes "a" ∷ codes "bcde" ∷ [] ≡ codes "a" ∷ is.long ∷ is.later = is.cut in
-    let line : codes "bcde" ≡ is.long = cc in
-    let count : 4 ≡ length is.long = ap length line in
-    omega (arith, count, is.is_long)
+to_long = (
+  record { long = codes "bcde"; later = []; cut = refl; is_long = omega arith },
+  λ is. (let lines : codes "a" ∷ codes "bcde" ∷ [] ≡ codes "a" ∷ is.long ∷ is.later = is.cut in
+      let line : codes "bcde" ≡ is.long = cc in
+      omega (arith, ap length line, is.is_long)),
+)
