@@ -188,10 +188,11 @@ pub fn write_parts<W: Write>(
     head: &Head,
     words: &[u64],
 ) -> io::Result<()>
-    // A head that tells of these words, in a number that may lie so, has a file, which reads back.
-    ensures file { length words.now ≡ head.now.num_words
-        → IsShape (length words.now) head.now.num_hashes → AreWhole layout (length words.now)
-        → OnOk result (WritesParts layout
+    requires count { length words.now ≡ head.now.num_words }
+    requires shape { IsShape (length words.now) head.now.num_hashes }
+    requires whole { AreWhole layout (length words.now) }
+    // What is written reads back.
+    ensures file { OnOk result (WritesParts layout
         (W.contents output.old) (W.contents output.new) head.now words.now) }
     ensures whole { OnOk result (Appends (W.contents output.old) (W.contents output.new)
         (sealed_file layout head.now words.now)) }

@@ -1,172 +1,181 @@
--- Filters that grow, at values from outside: cases that hold, and cases that differ from one of
--- these in one thing and don't hold. A filter of one word for one item has 44 hashes, and for two
--- items 22, since 64 times the logarithm of 2 is 44.4. Hash 1 has the positions 0 and 20 among 64.
-use Rattle.std.proofs.Common.{◌≡◌, ◌<◌, ◌≤◌, ℕ, max, true, false, List, [], ◌∷◌, length, replicate, refl, sym, ◌∙◌, ap, subst, arith, lit<, lit≤}
+-- Filters that grow: of each definition cases that hold, and the nearest that don't.
+use Rattle.std.proofs.Common.{◌≡◌, ◌<◌, ℕ, true, false, [], ◌∷◌, length, Option, Some, None, refl, ◌∙◌, ap, arith, lit<, lit≤}
 use Rattle.bloom_parts.specs.Chain.{chain}
 use Rattle.bloom_parts.specs.Content.{content}
 use Rattle.bloom_parts.specs.Places.{are_in}
-use Rattle.bloom_parts.specs.Rates.{num_of}
-use Rattle.bloom_parts.specs.Roots.{IsRoot}
-use Rattle.bloom_parts.specs.Sizing.{IsHalvings, size_for}
+use Rattle.bloom_parts.specs.declared.error.FilterError.{FilterError}
+use Rattle.bloom_parts.specs.declared.error.FilterError.TheVariants.{Memory}
 use Rattle.bloom_parts.specs.declared.math.rate.Rate.{Rate}
-use Rattle.bloom_plain.specs.Builders.{sized_filter, empty_start}
-use Rattle.bloom_plain.specs.Filter.{Filter}
-use Rattle.bloom_growing.specs.Growing.{Plan, plan_of, Growing, room_at, den_at, rate_start, IsNumber, has, Took, AreFull, IsGrown}
-use Rattle.bloom_growing.specs.GrowingLaws.{sum_of_rates}
-use Rattle.bloom_growing.specs.Kinds.{Kind, Plain, InsertsNew}
-use Rattle.bloom_plain.proofs.FilterFacts.{filter}
-use Rattle.bloom_growing.proofs.GrowingLemmas.{made-empty, took-none}
-use Rattle.bloom_growing.proofs.KindLemmas.{insert-found, new-found}
+use Rattle.bloom_growing.specs.Growing.{Plan, plan_of, Growing, newest_room, has, IsGrown}
+use Rattle.bloom_growing.specs.GrowingInserts.{IsBegun, Takes, of_builders, RefusesNumber, RefusesInsert}
+use Rattle.bloom_growing.specs.GrowingLaws.{TakesAll, sum_of_rates, RatesBelowLaw}
+use Rattle.bloom_growing.specs.Kinds.{Plain}
+use Rattle.bloom_growing.specs.declared.growing.error.GrowingError.TheVariants.{RateOverflow, TooManyItems, Filter}
+use Rattle.bloom_growing.proofs.Cases.{rate, four, halvings-none, plan, for_one, number-first, with_one, with_five, with_none, inserts-one, grown}
+use Rattle.bloom_growing.proofs.GrowingLemmas.{took-none}
 
--- the rate num / den
-abbrev pub rate : (num den : ℕ) → 0 < num → 0 < den → Rate
-rate num den some some' = record { num = num; den = den; num_above = some; den_above = some' }
+-- the room is doubled with each filter
+rooms : (newest_room (grown [] with_none 0) ≡ 1)
+    × (newest_room (grown (with_one ∷ []) with_none 0) ≡ 2)
+    × (newest_room (grown (with_one ∷ with_one ∷ []) with_none 0) ≡ 4)
+rooms = (refl, refl, refl)
 
--- the rates four, which is above one even when it was halved twice, and one
-abbrev pub four : Rate
-four = rate 4 1 (lit< tt) (lit< tt)
+-- a hash is found in an older filter, and in the newest, and not where none has it
+has-one : (has Plain (grown (with_one ∷ []) with_none 0) 1 ≡ true)
+    × (has Plain (grown (with_none ∷ []) with_one 1) 1 ≡ true)
+    × (has Plain (grown (with_none ∷ []) with_none 0) 1 ≡ false)
+unfolding content chain are_in
+has-one = (refl, refl, refl)
 
-abbrev pub whole : Rate
-whole = rate 1 1 (lit< tt) (lit< tt)
+-- what is asked for at the rate four, for one item, under the hasher 7
+abbrev asked : Plan ℕ
+asked = record { rate = four; room = 1; hasher = 7 }
 
--- the rooms 3, 6, 12
-rooms : (room_at 3 0 ∷ room_at 3 1 ∷ room_at 3 2 ∷ []) ≡ (3 ∷ 6 ∷ 12 ∷ [])
-rooms = refl
+-- a filter that was just made has its plan, no full filter, and took nothing yet
+begun : IsBegun Plain asked (grown [] for_one 0)
+    × (IsBegun Plain (plan_of four 2 7) (grown [] for_one 0) → ⊥)
+    × (IsBegun Plain asked (grown (with_one ∷ []) for_one 0) → ⊥)
+    × (IsBegun Plain asked (grown [] for_one 1) → ⊥)
+begun = (
+  record { plan = refl; older = refl; newest = number-first; taken = refl },
+  λ is. let wrong : 1 ≡ 2 = ap (λ p. p.room) is.plan in omega (arith, wrong),
+  λ is. let wrong : 1 ≡ 0 = ap length is.older in omega (arith, wrong),
+  λ is. let wrong : 1 ≡ 0 = is.taken in omega (arith, wrong),
+)
 
--- at 4 / 1 the filters are for 4 / 2, 4 / 4 and 4 / 8
-rates : (den_at four 0 ∷ den_at four 1 ∷ den_at four 2 ∷ []) ≡ (2 ∷ 4 ∷ 8 ∷ [])
-rates = refl
+-- a filter that grows from no items on
+abbrev roomless : Growing ℕ
+roomless = record { plan = plan_of four 0 7; older = []; newest = for_one; taken = 0 }
 
--- a half and a quarter sum to six eighths
-sum-two : sum_of_rates whole 2 ≡ (6, 8)
-sum-two = refl
+-- it keeps the rule; the newest filter takes no more than its room, which isn't zero at first
+rule : IsGrown Plain (grown [] for_one 0) × (IsGrown Plain (grown [] with_one 2) → ⊥)
+    × (IsGrown Plain roomless → ⊥)
+rule = (
+  record {
+    some_room = lit≤ tt;
+    full = tt;
+    newest = took-none Plain plan [] for_one number-first;
+    most = lit≤ tt;
+  },
+  λ is. omega (arith, is.most),
+  λ is. omega (arith, is.some_room),
+)
 
--- no rates sum to nothing
-sum-none : sum_of_rates whole 0 ≡ (0, 1)
-sum-none = refl
-
--- only one filter has a number, where the halvings of its rate are known
-pub only-number : {S : Type 0} (plan : Plan S) (i parts : ℕ) (made : Filter S)
-    → IsHalvings (num_of plan.rate) (den_at plan.rate i) parts → IsNumber Plain plan i made
-    → made ≡ sized_filter (empty_start (rate_start plan.rate plan.hasher)
-    (size_for (max 1 (room_at plan.room i)) parts)) (room_at plan.room i)
-only-number plan i parts made known is =
-    let size = is.is_made.1 in
-    let halvings =
-    subst (λ n. IsHalvings n (den_at plan.rate i) size.0) is.num
-    (subst (λ d. IsHalvings (num_of is.rate) d size.0) is.den size.1) in
-    let same : size.0 ≡ parts =
-    omega (arith, known.least size.0 halvings.enough, halvings.least parts known.enough) in
-    let room = room_at plan.room i in
-    is.is_made.2
-    ∙ ap (λ b. sized_filter (empty_start (rate_start plan.rate plan.hasher) b) room)
-    (size.2 ∙ ap (size_for (max 1 room)) same)
-
--- the rate 4 / 4 takes no halving
-pub halvings-none : IsHalvings 4 4 0
-halvings-none =
-    let root : IsRoot 0 4294967296 = record { at_most = lit≤ tt; greatest = lit< tt } in
-    record { enough = (4294967296, root, lit≤ tt); least = λ other is. omega arith }
-
--- a plan for one item at first, at the rate four, under the hasher 7
-abbrev pub plan : Plan ℕ
-plan = plan_of four 1 7
-
--- its filter number 1 is for two items
-pub number-one : IsNumber Plain plan 1 (filter (0 ∷ []) 22 7)
-number-one = record {
-  rate = rate 4 4 (lit< tt) (lit< tt);
-  num = refl;
-  den = refl;
-  is_made = (64, (0, halvings-none, refl), refl);
+-- a new hash is taken by the newest filter, where that one has room
+takes-spare : Takes Plain (grown [] with_none 0) 1 (grown [] with_one 1) false
+unfolding content chain are_in
+takes-spare = record {
+  answers = refl;
+  held = λ held. let wrong : false ≡ true = held in cc;
+  spare = λ _ _. record { plan = refl; older = refl; newest = inserts-one; taken = refl };
+  full = λ _ full. absurd (omega (arith, full));
 }
 
--- and not for one item: its room is doubled
-pub number-one_room : IsNumber Plain plan 1 (filter (0 ∷ []) 44 7) → ⊥
-number-one_room is =
-    let wrong : 44 ≡ 22 = ap (λ f. f.hashes) (only-number plan 1 0 _ halvings-none is) in
-    omega (arith, wrong)
-
--- nor has it another hasher
-number-one_hasher : IsNumber Plain plan 1 (filter (0 ∷ []) 22 8) → ⊥
-number-one_hasher is =
-    let wrong : 8 ≡ 7 = ap (λ f. f.hasher) (only-number plan 1 0 _ halvings-none is) in
-    omega (arith, wrong)
-
-module _ (one : IsHalvings 1 2 64) where
-  -- at the rate one, for 1000 items at first, the first filter is for a half: it has 23 words
-  number-half : IsNumber Plain (plan_of whole 1000 7) 0 (filter (replicate 23 0) 1 7)
-  number-half = record {
-    rate = rate 1 2 (lit< tt) (lit< tt);
-    num = refl;
-    den = refl;
-    is_made = (1448, (64, one, refl), refl);
-  }
-
-  -- one word would be enough for the rate one: the rate is halved
-  number-whole : IsNumber Plain (plan_of whole 1000 7) 0 (filter (0 ∷ []) 1 7) → ⊥
-  number-whole is =
-      let wrong : 1 ≡ 23 =
-      ap (λ f. length f.words) (only-number (plan_of whole 1000 7) 0 64 _ one is) in
-      omega (arith, wrong)
-
--- filters, the first of which has hash 1, and the other nothing
-abbrev pub with_one : Filter ℕ
-with_one = filter (1048577 ∷ []) 2 7
-
-abbrev pub with_none : Filter ℕ
-with_none = filter (0 ∷ []) 2 7
-
--- a filter that grows, of these filters
-abbrev pub grown : List (Filter ℕ) → Filter ℕ → ℕ → Growing ℕ
-grown older newest taken = record {
-  plan = plan;
-  older = older;
-  newest = newest;
-  taken = taken;
-}
-
--- a hash is found in an older filter
-has-older : has Plain (grown (with_one ∷ []) with_none 0) 1 ≡ true
+-- it counts, the reply isn't true, and the next filter doesn't begin early
+spare-wrong : (Takes Plain (grown [] with_none 0) 1 (grown [] with_one 0) false → ⊥)
+    × (Takes Plain (grown [] with_none 0) 1 (grown [] with_one 1) true → ⊥)
+    × (Takes Plain (grown [] with_none 0) 1 (grown (with_none ∷ []) with_one 1) false → ⊥)
 unfolding content chain are_in
-has-older = refl
+spare-wrong = (
+  λ did. let wrong : 0 ≡ 1 = (did.spare refl (lit< tt)).taken in omega (arith, wrong),
+  λ did. let wrong : true ≡ false = did.answers in cc,
+  λ did.
+      let wrong : 1 ≡ 0 = ap length (did.spare refl (lit< tt)).older in omega (arith, wrong),
+)
 
--- a hash is found in the newest filter
-has-newest : has Plain (grown (with_none ∷ []) with_one 1) 1 ≡ true
+-- nor late, and a hash that is contained doesn't count
+full-wrong : (Takes Plain (grown [] with_five 1) 1 (grown [] with_one 2) false → ⊥)
+    × (Takes Plain (grown [] with_one 0) 1 (grown [] with_one 1) true → ⊥)
 unfolding content chain are_in
-has-newest = refl
+full-wrong = (
+  λ did.
+      let next = did.full refl (lit≤ tt) in
+      let wrong : 0 ≡ 1 = ap length (next.2.older ∙ next.1.older) in
+      omega (arith, wrong),
+  λ did. let wrong : 1 ≡ 0 = ap (λ g. g.taken) (did.held refl) in omega (arith, wrong),
+)
 
--- a hash that no filter has isn't found
-has-none : has Plain (grown (with_none ∷ []) with_none 0) 1 ≡ false
+-- a list is one insert after the other, and no list changes nothing
+takes-all : TakesAll Plain (grown [] with_none 0) (1 ∷ []) (grown [] with_one 1)
+    × (TakesAll Plain (grown [] with_one 0) [] (grown [] with_one 1) → ⊥)
+takes-all = (
+  (grown [] with_one 1, false, takes-spare, refl),
+  λ all. let wrong : 1 ≡ 0 = ap (λ g. g.taken) all in omega (arith, wrong),
+)
+
+-- of the rate four 4 / 2 and 4 / 4 sum to 24 / 8, which is less
+sums : (sum_of_rates four 0 ≡ (0, 1)) × (sum_of_rates four 2 ≡ (24, 8)) × (RatesBelowLaw → 24 < 32)
+sums = (refl, refl, λ law. law four 2)
+
+-- the rate 1 / 2^63, whose half would have the lower part 2^64
+abbrev least_rate : Rate
+least_rate = rate 1 9223372036854775808 (lit< tt) (lit< tt)
+
+-- the first filter is refused for the rate, also where its room of 2^64 would be refused
+refuses-rate : RefusesNumber Plain least_rate 1 0 (Some RateOverflow)
+    × (RefusesNumber Plain least_rate 18446744073709551616 0 (Some TooManyItems) → ⊥)
+refuses-rate = (
+  record {
+    rate_refused = λ _. refl;
+    room_refused = λ small _. absurd (omega (arith, small));
+    size_refused = λ small _. absurd (omega (arith, small));
+  },
+  λ is. let wrong : Some TooManyItems ≡ Some RateOverflow = is.rate_refused (lit≤ tt) in cc,
+)
+
+-- the second filter of a room of 2^63 would be for 2^64 items
+refuses-room : RefusesNumber Plain four 9223372036854775808 1 (Some TooManyItems)
+    × (RefusesNumber Plain four 9223372036854775808 1 None → ⊥)
+refuses-room = (
+  record {
+    rate_refused = λ large. absurd (omega (arith, large));
+    room_refused = λ _ _. refl;
+    size_refused = λ _ few. absurd (omega (arith, few));
+  },
+  λ is. let wrong : None ≡ Some TooManyItems = is.room_refused (lit< tt) (lit≤ tt) in cc,
+)
+
+-- the second filter of a room of one has one word: it is made, or out of memory
+refuses-size : RefusesNumber Plain four 1 1 None
+    × RefusesNumber Plain four 1 1 (Some (Filter Memory))
+    × (RefusesNumber Plain four 1 1 (Some RateOverflow) → ⊥)
+refuses-size = (
+  record {
+    rate_refused = λ large. absurd (omega (arith, large));
+    room_refused = λ _ many. absurd (omega (arith, many));
+    size_refused = λ _ _. (64, (0, halvings-none 4 (lit≤ tt), refl), None, tt, refl);
+  },
+  record {
+    rate_refused = λ large. absurd (omega (arith, large));
+    room_refused = λ _ many. absurd (omega (arith, many));
+    size_refused = λ _ _. (64, (0, halvings-none 4 (lit≤ tt), refl), Some Memory, refl, refl);
+  },
+  λ is. none-told (is.size_refused (lit< tt) (lit< tt)).2 (is.size_refused (lit< tt) (lit< tt)).4,
+)
+  where
+    -- the builders tell of no rate
+    none-told : (refusal : Option FilterError) → Some RateOverflow ≡ of_builders refusal → ⊥
+    none-told None wrong = cc
+    none-told (Some e) wrong = cc
+
+-- an insert is refused as the next filter is, where the newest is full
+refuses-insert : RefusesInsert Plain (grown [] with_five 1) 1 (Some (Filter Memory))
+    × (RefusesInsert Plain (grown [] with_five 1) 1 (Some RateOverflow) → ⊥)
 unfolding content chain are_in
-has-none = refl
+refuses-insert = (
+  record {
+    held = λ held. let wrong : false ≡ true = held in cc;
+    spare = λ spare. absurd (omega (arith, spare));
+    full = λ _ _. refuses-size.1;
+  },
+  λ is. refuses-size.2 (is.full refl (lit≤ tt)),
+)
 
--- a filter that was just made took no hash
-none-took : Took Plain plan (with_one ∷ []) 0 (filter (0 ∷ []) 22 7)
-none-took = took-none Plain plan (with_one ∷ []) (filter (0 ∷ []) 22 7) number-one
-
--- a filter that has nothing took no list of at least one hash
-pub took-list : {S : Type 0} (kind : Kind) (plan : Plan S) (i : ℕ) (made filter : Filter S)
-    (hashes : List ℕ) → IsNumber kind plan i filter → InsertsNew kind made hashes filter
-    → 1 ≤ length hashes → ⊥
-took-list kind plan i made filter [] is did some = absurd (omega (arith, some))
-took-list kind plan i made filter (hash ∷ later) is did some =
-    let found = new-found kind did.0 later filter hash did.2
-    (insert-found kind made did.0 hash false did.1) in
-    let wrong : false ≡ true = sym (made-empty kind plan i filter hash is) ∙ found in
-    cc
-
--- so it didn't take one
-one-took : Took Plain plan (with_one ∷ []) 1 (filter (0 ∷ []) 22 7) → ⊥
-one-took took =
-    took-list Plain plan 1 took.made _ took.hashes number-one took.did (omega (arith, took.counted))
-
--- and isn't full, since it has room for two
-not-full : AreFull Plain plan (with_one ∷ []) (filter (0 ∷ []) 22 7 ∷ []) → ⊥
-not-full full =
-    let took = full.0 in
-    took-list Plain plan 1 took.made _ took.hashes number-one took.did (omega (arith, took.counted))
-
--- the newest filter took no more than its room
-grown-past : IsGrown Plain (grown [] with_one 2) → ⊥
-grown-past is = omega (arith, is.most)
+-- and neither where there is room, nor where the hash is contained
+insert-wrong : (RefusesInsert Plain (grown [] with_none 0) 1 (Some (Filter Memory)) → ⊥)
+    × (RefusesInsert Plain (grown [] with_one 1) 1 (Some (Filter Memory)) → ⊥)
+unfolding content chain are_in
+insert-wrong = (
+  λ is. let wrong : Some (Filter Memory) ≡ None = is.spare (lit< tt) in cc,
+  λ is. let wrong : Some (Filter Memory) ≡ None = is.held refl in cc,
+)

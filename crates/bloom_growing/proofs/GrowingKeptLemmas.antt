@@ -38,12 +38,14 @@ some_room_at (suc room) i some = omega (arith, one-le-pow i 2 (lit≤ tt))
 pub kept-begun : (kind : Kind) (plan : Plan (CloneBuildHasher RandomDefaultHasher))
     (none : List (Filter (CloneBuildHasher RandomDefaultHasher)))
     (made : Filter (CloneBuildHasher RandomDefaultHasher)) (half : Rate) → 1 ≤ plan.room
-    → IsKeyed plan.hasher → none ≡ [] → IsNumber kind plan 0 made → num_of half ≡ num_of plan.rate
-    → den_of half ≡ den_at plan.rate 0
-    → IsKept kind (record { plan = plan; older = none; newest = made; taken = 0 }) half plan.room
+    → IsKeyed plan.hasher → none ≡ [] → IsNumber kind plan 0 made
+    → num_of half ≡ num_of plan.rate → den_of half ≡ den_at plan.rate 0
+    → IsKept kind (record { plan = plan; older = none; newest = made; taken = 0 }) half
+    plan.room
 kept-begun kind plan none made half some key is number num den =
     subst
-    (λ l. IsKept kind (record { plan = plan; older = l; newest = made; taken = 0 }) half plan.room)
+    (λ l. IsKept kind (record { plan = plan; older = l; newest = made; taken = 0 }) half
+    plan.room)
     (sym is) (record {
       grown = record {
         some_room = some;
@@ -151,13 +153,18 @@ module _ (kind : Kind) (g : Growing (CloneBuildHasher RandomDefaultHasher)) (rat
   pub kept-adds : (hash : ℕ) (new : Filter (CloneBuildHasher RandomDefaultHasher))
       → any_contains kind g.older hash ≡ false → g.taken < newest_room g
       → InsertsIn kind g.newest hash new false
-      → IsKept kind (record { plan = g.plan; older = g.older; newest = new; taken = g.taken + 1 })
-      rate room
+      → IsKept kind (record {
+        plan = g.plan;
+        older = g.older;
+        newest = new;
+        taken = g.taken + 1;
+      }) rate room
   kept-adds hash new absent spare did = record {
     grown = record {
       some_room = kept.grown.some_room;
       full = kept.grown.full;
-      newest = took-next kind g.plan g.older g.taken g.newest new hash kept.grown.newest absent did;
+      newest =
+          took-next kind g.plan g.older g.taken g.newest new hash kept.grown.newest absent did;
       most = omega (arith, spare);
     };
     key = kept.key;

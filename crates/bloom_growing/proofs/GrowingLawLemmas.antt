@@ -1,12 +1,12 @@
 -- The laws of filters that grow.
-use Rattle.std.proofs.Common.{◌≡◌, ℕ, zero, suc, ◌+◌, ◌*◌, ◌^◌, ◌<◌, Bool, true, false, [], ◌∷◌, refl, sym, ◌∙◌, ap, subst, arith, add-one, inl, inr}
+use Rattle.std.proofs.Common.{◌≡◌, ℕ, zero, suc, ◌+◌, ◌*◌, ◌^◌, ◌<◌, Bool, true, false, List, [], ◌∷◌, ◌++◌, refl, sym, ◌∙◌, ap, subst, arith, add-one, inl, inr}
 use Rattle.std.proofs.Math.Nat.{mul-pos, pow-suc, lt_of_mul-lt-mul_right}
 use Rattle.std.proofs.lemmas.Bool.{or_cases, or_left, or_right, cases_lt}
 use Rattle.bloom_parts.specs.Rates.{num_of, den_of}
 use Rattle.bloom_parts.specs.declared.math.rate.Rate.{Rate}
 use Rattle.bloom_growing.specs.Growing.{Growing, any_contains, has, den_at, newest_room}
-use Rattle.bloom_growing.specs.GrowingInserts.{Begins, MakesRoom, Adds, Takes}
-use Rattle.bloom_growing.specs.GrowingLaws.{GrowingKeptLaw, GrowingFoundLaw, sum_of_rates, RatesBelowLaw}
+use Rattle.bloom_growing.specs.GrowingInserts.{Begins, Adds, Takes}
+use Rattle.bloom_growing.specs.GrowingLaws.{TakesAll, sum_of_rates, RatesBelowLaw}
 use Rattle.bloom_growing.specs.Kinds.{Kind, contains_in}
 use Rattle.bloom_growing.proofs.GrowingLemmas.{has-or}
 use Rattle.bloom_growing.proofs.GrowingKeptLemmas.{some_room_at}
@@ -29,14 +29,6 @@ module _ {S : Type 0} (kind : Kind) where
   has-begins old new hash begins found =
       has-older new hash (ap (λ l. any_contains kind l hash) begins.older ∙ found)
 
-  -- making room loses no hash
-  has-room : (old new : Growing S) (hash : ℕ) → MakesRoom kind old new → has kind old hash ≡ true
-      → has kind new hash ≡ true
-  has-room old new hash room found = elim (cases_lt old.taken (newest_room old)) [
-    | inl spare ↦ subst (λ g. has kind g hash ≡ true) (sym (room.spare spare)) found
-    | inr full ↦ has-begins old new hash (room.full full) found
-  ]
-
   -- one more hash loses no other
   has-adds : (old new : Growing S) (added hash : ℕ) → Adds kind old added new
       → has kind old hash ≡ true
@@ -51,14 +43,23 @@ module _ {S : Type 0} (kind : Kind) where
             (insert-keeps kind old.newest new.newest added hash false adds.newest newest)
       ]
 
+  -- the hash that was added is contained
+  found-adds : (old new : Growing S) (hash : ℕ) → Adds kind old hash new → has kind new hash ≡ true
+  found-adds old new hash adds =
+      has-newest new hash (insert-found kind old.newest new.newest hash false adds.newest)
+
   -- an insert by its reply: nothing changed, or the hash was added
   kept-takes : (old new : Growing S) (came hash : ℕ) (reply held : Bool) → has kind old came ≡ held
       → Takes kind old came new reply → has kind old hash ≡ true → has kind new hash ≡ true
   kept-takes old new came hash reply true is takes found =
       subst (λ g. has kind g hash ≡ true) (sym (takes.held is)) found
   kept-takes old new came hash reply false is takes found =
-      let added = takes.adds is in
-      has-adds added.0 new came hash added.2 (has-room old added.0 hash added.1 found)
+      elim (cases_lt old.taken (newest_room old)) [
+        | inl spare ↦ has-adds old new came hash (takes.spare is spare) found
+        | inr full ↦
+            let begun = takes.full is full in
+            has-adds begun.0 new came hash begun.2 (has-begins old begun.0 hash begun.1 found)
+      ]
 
   -- a hash that came is contained, whether it was before or not
   found-takes : (old new : Growing S) (hash : ℕ) (reply held : Bool) → has kind old hash ≡ held
@@ -66,11 +67,15 @@ module _ {S : Type 0} (kind : Kind) where
   found-takes old new hash reply true is takes =
       subst (λ g. has kind g hash ≡ true) (sym (takes.held is)) is
   found-takes old new hash reply false is takes =
-      let added = takes.adds is in
-      has-newest new hash (insert-found kind added.0.newest new.newest hash false added.2.newest)
+      elim (cases_lt old.taken (newest_room old)) [
+        | inl spare ↦ found-adds old new hash (takes.spare is spare)
+        | inr full ↦
+            let begun = takes.full is full in found-adds begun.0 new hash begun.2
+      ]
 
 -- what is contained stays, one insert after the other
-pub growing_kept_law : (S : Type 0) → GrowingKeptLaw S
+pub growing_kept_law : (S : Type 0) (kind : Kind) (old new : Growing S) (hashes : List ℕ) (hash : ℕ)
+    → TakesAll kind old hashes new → has kind old hash ≡ true → has kind new hash ≡ true
 growing_kept_law S kind old new [] hash all found =
     subst (λ g. has kind g hash ≡ true) (sym all) found
 growing_kept_law S kind old new (came ∷ later) hash all found =
@@ -78,7 +83,8 @@ growing_kept_law S kind old new (came ∷ later) hash all found =
     (kept-takes kind old all.0 came hash all.1 (has kind old came) refl all.2 found)
 
 -- the hash is contained once it came, and stays
-pub growing_found_law : (S : Type 0) → GrowingFoundLaw S
+pub growing_found_law : (S : Type 0) (kind : Kind) (old new : Growing S) (earlier later : List ℕ)
+    (hash : ℕ) → TakesAll kind old (earlier ++ hash ∷ later) new → has kind new hash ≡ true
 growing_found_law S kind old new [] later hash all =
     growing_kept_law S kind all.0 new later hash all.3
     (found-takes kind old all.0 hash all.1 (has kind old hash) refl all.2)

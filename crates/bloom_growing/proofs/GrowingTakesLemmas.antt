@@ -2,7 +2,7 @@
 use Rattle.std.proofs.Common.{◌≡◌, ℕ, ◌<◌, ◌≤◌, Bool, true, false, ◌||◌, refl, sym, ◌∙◌, ap, subst, arith}
 use Rattle.std.proofs.lemmas.Bool.{both_ways}
 use Rattle.bloom_growing.specs.Growing.{Growing, newest_room, any_contains, has}
-use Rattle.bloom_growing.specs.GrowingInserts.{Begins, MakesRoom, Adds, Takes}
+use Rattle.bloom_growing.specs.GrowingInserts.{Begins, Adds, Takes}
 use Rattle.bloom_growing.specs.Kinds.{Kind, contains_in}
 use Rattle.bloom_growing.proofs.GrowingLemmas.{has-or}
 
@@ -12,17 +12,15 @@ module _ {S : Type 0} (kind : Kind) (g : Growing S) (hash : ℕ) where
   takes-held held = record {
     answers = sym held;
     held = λ _. refl;
-    adds = λ absent. absurd (both_ways (has kind g hash) absent held);
+    spare = λ absent. absurd (both_ways (has kind g hash) absent held);
+    full = λ absent. absurd (both_ways (has kind g hash) absent held);
   }
 
-  -- a hash that no filter contains is added once there is room
-  pub takes-adds : (roomy new : Growing S) → has kind g hash ≡ false → MakesRoom kind g roomy
-      → Adds kind roomy hash new → Takes kind g hash new false
-  takes-adds roomy new absent room adds = record {
-    answers = sym absent;
-    held = λ held. absurd (both_ways (has kind g hash) absent held);
-    adds = λ _. (roomy, room, adds);
-  }
+  -- no filter contains a hash that neither the older ones nor the newest contain
+  has-none : any_contains kind g.older hash ≡ false → contains_in kind g.newest hash ≡ false
+      → has kind g hash ≡ false
+  has-none older newest =
+      has-or kind g hash ∙ ap (λ b. b || contains_in kind g.newest hash) older ∙ newest
 
   -- where the newest filter has room, the reply is whether it contains the hash
   pub takes-spare : (new : Growing S) (reply : Bool) → any_contains kind g.older hash ≡ false
@@ -34,10 +32,13 @@ module _ {S : Type 0} (kind : Kind) (g : Growing S) (hash : ℕ) where
       (takes-held (has-or kind g hash ∙ ap (λ b. b || contains_in kind g.newest hash) absent
       ∙ sym is))
   takes-spare new false absent spare is held adds =
-      takes-adds g new
-      (has-or kind g hash ∙ ap (λ b. b || contains_in kind g.newest hash) absent ∙ sym is)
-      (record { spare = λ _. refl; full = λ full. absurd (omega (arith, spare, full)) })
-      (adds refl)
+      let none : has kind g hash ≡ false = has-none absent (sym is) in
+      record {
+        answers = sym none;
+        held = λ held. absurd (both_ways (has kind g hash) none held);
+        spare = λ _ _. adds refl;
+        full = λ _ full. absurd (omega (arith, spare, full));
+      }
 
   -- where the newest filter is full, the next one has no hash, and adds this one
   pub takes-full : (next new : Growing S) (reply : Bool) → any_contains kind g.older hash ≡ false
@@ -45,9 +46,10 @@ module _ {S : Type 0} (kind : Kind) (g : Growing S) (hash : ℕ) where
       → contains_in kind next.newest hash ≡ false → reply ≡ contains_in kind next.newest hash
       → (reply ≡ false → Adds kind next hash new) → Takes kind g hash new reply
   takes-full next new reply absent full none begins empty is adds =
-      let absent_all : has kind g hash ≡ false =
-      has-or kind g hash ∙ ap (λ b. b || contains_in kind g.newest hash) absent ∙ none in
-      subst (λ b. Takes kind g hash new b) (sym (is ∙ empty))
-      (takes-adds next new absent_all
-      (record { spare = λ spare. absurd (omega (arith, spare, full)); full = λ _. begins })
-      (adds (is ∙ empty)))
+      let none_all : has kind g hash ≡ false = has-none absent none in
+      record {
+        answers = is ∙ empty ∙ sym none_all;
+        held = λ held. absurd (both_ways (has kind g hash) none_all held);
+        spare = λ _ spare. absurd (omega (arith, spare, full));
+        full = λ _ _. (next, begins, adds (is ∙ empty));
+      }

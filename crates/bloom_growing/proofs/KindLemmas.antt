@@ -119,16 +119,6 @@ module _ {S : Type 0} where
   new-next kind old (first ∷ later) filter new hash all did =
       (all.0, all.1, new-next kind all.0 later filter new hash all.2 did)
 
-  -- a hash of inserted ones is contained
-  pub new-found : (kind : Kind) (old : Filter S) (hashes : List ℕ) (new : Filter S) (hash : ℕ)
-      → InsertsNew kind old hashes new → contains_in kind old hash ≡ true
-      → contains_in kind new hash ≡ true
-  new-found kind old [] new hash same found =
-      subst (λ f. contains_in kind f hash ≡ true) (sym same) found
-  new-found kind old (first ∷ later) new hash all found =
-      new-found kind all.0 later new hash all.2
-      (insert-keeps kind old all.0 first hash false all.1 found)
-
   -- what the builders make has zero words
   pub made-zeros : (kind : Kind) (start : RateStart S) (items : ℕ) (made : Filter S)
       → IsMadeIn kind start items made → (n : ℕ) × (made.words ≡ replicate n 0)

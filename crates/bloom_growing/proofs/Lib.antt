@@ -1,12 +1,11 @@
+mod Cases
 mod DifferentLemmas
 mod GrowingFacts
-mod GrowingInsertFacts
 mod GrowingKeptLemmas
 mod GrowingLawLemmas
 mod GrowingLemmas
 mod GrowingRateFacts
 mod GrowingRateLemmas
-mod GrowingRefusalFacts
 mod GrowingRefusalLemmas
 mod GrowingTakesLemmas
 mod KindFacts
@@ -14,4 +13,3 @@ mod KindLemmas
 mod RecentLemmas
 mod RotatingFacts
 mod RotatingLemmas
-mod RotatingRuleFacts

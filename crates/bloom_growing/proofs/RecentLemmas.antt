@@ -6,7 +6,7 @@ use Rattle.std.specs.Cmp.{unsigned_Decides}
 use Rattle.std.specs.Set.{distinct_count, is_member}
 use Rattle.bloom_plain.specs.Filter.{Filter}
 use Rattle.bloom_growing.specs.Kinds.{Kind, contains_in, InsertsIn}
-use Rattle.bloom_growing.specs.Rotating.{Rotating, either_contains, Fills, Turns, Receives, ReceivesAll, RecentFoundLaw}
+use Rattle.bloom_growing.specs.Rotating.{Rotating, either_contains, Fills, Turns, Receives, ReceivesAll}
 use Rattle.bloom_growing.proofs.DifferentLemmas.{cut-last, cons-out, suffix, one-more, some-more, last-at}
 use Rattle.bloom_growing.proofs.KindLemmas.{insert-found, insert-keeps}
 
@@ -194,7 +194,9 @@ holds-all kind old new came (hash ∷ more) holds all =
     (holds-more kind old hash came holds all.0 all.1 all.2) all.3)
 
 -- a hash that came is contained while fewer different ones came behind it than each filter is for
-pub recent_found_law : (S : Type 0) → RecentFoundLaw S
+pub recent_found_law : (S : Type 0) (kind : Kind) (old new : Rotating S) (earlier later : List ℕ)
+    (hash : ℕ) → ReceivesAll kind old (earlier ++ hash ∷ later) new
+    → count later < new.plan.room → either_contains kind new hash ≡ true
 recent_found_law S kind old new earlier later hash all few =
     (holds-all kind old new [] (earlier ++ hash ∷ later) (holds-none kind old) all).both
     earlier later hash

@@ -1,189 +1,132 @@
--- Filters that rotate, at values from outside: cases that hold, and cases that differ from one of
--- these in one thing and don't hold. Hash 1 has the positions 0 and 20 among 64.
-use Rattle.std.proofs.Common.{◌≡◌, ℕ, true, false, [], ◌∷◌, refl, ap, arith, lit<, lit≤}
+-- Filters that rotate: of each definition cases that hold, and the nearest that don't.
+use Rattle.std.proofs.Common.{◌≡◌, true, false, [], ◌∷◌, refl, ap, arith, lit<, lit≤}
 use Rattle.bloom_parts.specs.Chain.{chain}
 use Rattle.bloom_parts.specs.Content.{content}
-use Rattle.bloom_parts.specs.Places.{positions, are_in}
-use Rattle.bloom_plain.specs.Filter.{Filter}
-use Rattle.bloom_growing.specs.Growing.{plan_of}
+use Rattle.bloom_parts.specs.Places.{are_in}
+use Rattle.bloom_plain.specs.Filter.{Clears}
+use Rattle.bloom_plain.proofs.CaseLemmas.{content-case}
+use Rattle.bloom_growing.specs.GrowingRates.{part_now, part_after}
 use Rattle.bloom_growing.specs.Kinds.{Plain}
-use Rattle.bloom_growing.specs.Rotating.{Rotating, older_taken, either_contains, Fills, Turns, Receives, ReceivesAll}
-use Rattle.bloom_plain.proofs.FilterFacts.{filter}
-use Rattle.bloom_growing.proofs.GrowingFacts.{four, with_one, with_none}
-use Rattle.bloom_plain.proofs.InsertFacts.{inserts-first}
-use Rattle.bloom_plain.proofs.SetFacts.{clears}
-
--- a filter that rotates, of these filters, for this many items at a rate of four, under the
--- hasher 7
-abbrev pub rotating : (room : ℕ) → (older newer : Filter ℕ) → (taken turns : ℕ) → Rotating ℕ
-rotating room older newer taken turns = record {
-  plan = plan_of four room 7;
-  older = older;
-  newer = newer;
-  taken = taken;
-  turns = turns;
-}
-
--- the older filter took nothing before the first turn, and its room from then on
-older_taken-none : older_taken (rotating 3 with_none with_one 1 0) ≡ 0
-older_taken-none = refl
-
-older_taken-all : older_taken (rotating 3 with_one with_none 0 1) ≡ 3
-older_taken-all = refl
+use Rattle.bloom_growing.specs.Rotating.{either_contains, IsRotating, IsUnused, Receives, ReceivesAll, both_now, both_taken}
+use Rattle.bloom_growing.proofs.Cases.{plan, for_one, number-first, with_one, with_five, with_none, inserts-one, rotating}
+use Rattle.bloom_growing.proofs.RotatingLemmas.{rotating-none}
 
 -- a hash is contained that either filter has, and no other
-contains-older : either_contains Plain (rotating 3 with_one with_none 0 1) 1 ≡ true
+contains : (either_contains Plain (rotating 3 with_one with_none 0 1) 1 ≡ true)
+    × (either_contains Plain (rotating 3 with_none with_one 1 0) 1 ≡ true)
+    × (either_contains Plain (rotating 3 with_none with_none 0 0) 1 ≡ false)
 unfolding content chain are_in
-contains-older = refl
+contains = (refl, refl, refl)
 
-contains-newer : either_contains Plain (rotating 3 with_none with_one 1 0) 1 ≡ true
-unfolding content chain are_in
-contains-newer = refl
+-- a filter that was just made has its plan, and neither took a hash nor turned over
+unused : IsUnused Plain plan (rotating 1 for_one for_one 0 0)
+    × (IsUnused Plain plan (rotating 2 for_one for_one 0 0) → ⊥)
+    × (IsUnused Plain plan (rotating 1 for_one for_one 1 0) → ⊥)
+    × (IsUnused Plain plan (rotating 1 for_one for_one 0 1) → ⊥)
+unused = (
+  record { plan = refl; older = number-first; newer = number-first; taken = refl; turns = refl },
+  λ is. let wrong : 2 ≡ 1 = ap (λ p. p.room) is.plan in omega (arith, wrong),
+  λ is. let wrong : 1 ≡ 0 = is.taken in omega (arith, wrong),
+  λ is. let wrong : 1 ≡ 0 = is.turns in omega (arith, wrong),
+)
 
-contains-none : either_contains Plain (rotating 3 with_none with_none 0 0) 1 ≡ false
-unfolding content chain are_in
-contains-none = refl
+-- it keeps the rule; the newer filter always has room
+rule : IsRotating Plain (rotating 1 for_one for_one 0 0)
+    × (IsRotating Plain (rotating 1 for_one for_one 1 0) → ⊥)
+rule = (
+  rotating-none Plain (rotating 1 for_one for_one 0 0) (lit≤ tt) number-first number-first refl
+      refl,
+  λ is. omega (arith, is.has_room),
+)
 
--- the newer filter takes hash 1, and counts it
-fills-first : Fills Plain (rotating 3 with_none with_none 0 0) 1 (rotating 3 with_none with_one 1 0)
-fills-first = record { older = refl; newer = inserts-first; taken = refl; turns = refl }
-
-fills-uncounted : Fills Plain (rotating 3 with_none with_none 0 0) 1
-    (rotating 3 with_none with_one 0 0)
-    → ⊥
-fills-uncounted fills = let wrong : 0 ≡ 1 = fills.taken in omega (arith, wrong)
-
--- the older one doesn't take it
-fills-older : Fills Plain (rotating 3 with_none with_none 0 0) 1 (rotating 3 with_one with_none 1 0)
-    → ⊥
-unfolding content positions chain
-fills-older fills = let wrong : false ≡ true = fills.newer.bits 20 in cc
-
--- no filter is cleared while there is room
-fills-turned : Fills Plain (rotating 3 with_none with_none 0 0) 1
-    (rotating 3 with_one with_none 0 1) → ⊥
-fills-turned fills = let wrong : 1 ≡ 0 = fills.turns in omega (arith, wrong)
-
--- a filter with another word, which is cleared
-abbrev pub with_five : Filter ℕ
-with_five = filter (5 ∷ []) 2 7
-
--- the newer filter takes hash 1, and becomes the older one, and the older one is cleared
-turns-first : Turns Plain (rotating 1 with_five with_none 0 4) 1 (rotating 1 with_one with_none 0 5)
-turns-first = record { older = inserts-first; newer = clears; taken = refl; turns = refl }
-
--- the older one isn't left as it is
-turns-uncleared : Turns Plain (rotating 1 with_five with_none 0 4) 1
-    (rotating 1 with_one with_five 0 5)
-    → ⊥
+-- a word that is cleared
+cleared : Clears with_five with_none
 unfolding content
-turns-uncleared turns = let wrong : true ≡ false = turns.newer.bits 2 in cc
+cleared = record {
+  bits = content-case (0 ∷ []) (λ p. false) refl (λ p past. refl);
+  shape = record { words = refl; hashes = refl };
+  hasher = refl;
+}
 
--- both aren't cleared
-turns-both : Turns Plain (rotating 1 with_five with_none 0 4) 1 (rotating 1 with_none with_none 0 5)
-    → ⊥
-unfolding content positions chain
-turns-both turns = let wrong : false ≡ true = turns.older.bits 20 in cc
-
--- the count begins anew
-turns-counted : Turns Plain (rotating 1 with_five with_none 0 4) 1
-    (rotating 1 with_one with_none 1 5) → ⊥
-turns-counted turns = let wrong : 1 ≡ 0 = turns.taken in omega (arith, wrong)
-
--- the turn counts
-turns-uncounted : Turns Plain (rotating 1 with_five with_none 0 4) 1
-    (rotating 1 with_one with_none 0 4)
-    → ⊥
-turns-uncounted turns = let wrong : 4 ≡ 5 = turns.turns in omega (arith, wrong)
-
--- a hash that no filter contains is taken where there is room for two
-receives-first : Receives Plain (rotating 2 with_five with_none 0 4) 1
-    (rotating 2 with_five with_one 1 4) false
+-- a new hash is taken by the newer filter, also where the older one has it
+fills : Receives Plain (rotating 2 with_one with_none 0 4) 1 (rotating 2 with_one with_one 1 4) true
 unfolding content chain are_in
-receives-first = record {
+fills = record {
   answers = refl;
   plan = refl;
   held = λ held. let wrong : false ≡ true = held in cc;
-  fills = λ _ _. record { older = refl; newer = inserts-first; taken = refl; turns = refl };
+  fills = λ _ _. record { older = refl; newer = inserts-one; taken = refl; turns = refl };
   turns = λ _ full. absurd (omega (arith, full));
 }
 
--- the filter doesn't turn over early
-receives-early : Receives Plain (rotating 2 with_five with_none 0 4) 1
-    (rotating 2 with_one with_none 0 5) false → ⊥
+-- the reply isn't false, the hash isn't left to age, and the filter doesn't turn over early
+fills-wrong : (Receives Plain (rotating 2 with_one with_none 0 4) 1
+    (rotating 2 with_one with_one 1 4) false → ⊥)
+    × (Receives Plain (rotating 2 with_one with_none 0 4) 1
+    (rotating 2 with_one with_none 0 4) true → ⊥)
+    × (Receives Plain (rotating 2 with_one with_none 0 4) 1
+    (rotating 2 with_one with_none 0 5) true → ⊥)
 unfolding content chain are_in
-receives-early did =
-    let wrong : 5 ≡ 4 = (did.fills refl (lit< tt)).turns in omega (arith, wrong)
+fills-wrong = (
+  λ did. let wrong : false ≡ true = did.answers in cc,
+  λ did. let wrong : 0 ≡ 1 = (did.fills refl (lit< tt)).taken in omega (arith, wrong),
+  λ did. let wrong : 5 ≡ 4 = (did.fills refl (lit< tt)).turns in omega (arith, wrong),
+)
 
--- it turns over once its room is taken
-pub receives-last : Receives Plain (rotating 1 with_five with_none 0 4) 1
-    (rotating 1 with_one with_none 0 5) false
+-- it turns over once its room is taken, and clears the older filter
+turns : Receives Plain (rotating 1 with_five with_none 0 4) 1 (rotating 1 with_one with_none 0 5)
+    false
 unfolding content chain are_in
-receives-last = record {
+turns = record {
   answers = refl;
   plan = refl;
   held = λ held. let wrong : false ≡ true = held in cc;
   fills = λ _ spare. absurd (omega (arith, spare));
-  turns = λ _ _. turns-first;
+  turns = λ _ _. record { older = inserts-one; newer = cleared; taken = refl; turns = refl };
 }
 
--- it doesn't turn over late
-receives-late : Receives Plain (rotating 1 with_five with_none 0 4) 1
-    (rotating 1 with_five with_one 1 4) false → ⊥
+-- it doesn't turn over late, and leaves the older one neither uncleared nor its turn uncounted
+turns-wrong : (Receives Plain (rotating 1 with_five with_none 0 4) 1
+    (rotating 1 with_five with_one 1 4) false → ⊥)
+    × (Receives Plain (rotating 1 with_five with_none 0 4) 1
+    (rotating 1 with_one with_five 0 5) false → ⊥)
+    × (Receives Plain (rotating 1 with_five with_none 0 4) 1
+    (rotating 1 with_one with_none 0 4) false → ⊥)
 unfolding content chain are_in
-receives-late did =
-    let wrong : 4 ≡ 5 = (did.turns refl (lit≤ tt)).turns in omega (arith, wrong)
+turns-wrong = (
+  λ did. let wrong : 1 ≡ 0 = (did.turns refl (lit≤ tt)).taken in omega (arith, wrong),
+  λ did. let wrong : true ≡ false = (did.turns refl (lit≤ tt)).newer.bits 2 in cc,
+  λ did. let wrong : 4 ≡ 5 = (did.turns refl (lit≤ tt)).turns in omega (arith, wrong),
+)
 
--- a hash that the older filter contains is taken by the newer one, too
-receives-again : Receives Plain (rotating 2 with_one with_none 0 4) 1
-    (rotating 2 with_one with_one 1 4) true
+-- a hash that the newer filter contains changes nothing, and the plan stays
+held-wrong : (Receives Plain (rotating 3 with_five with_one 1 4) 1
+    (rotating 3 with_five with_one 2 4) true → ⊥)
+    × (Receives Plain (rotating 2 with_one with_none 0 4) 1 (rotating 3 with_one with_one 1 4) true
+    → ⊥)
 unfolding content chain are_in
-receives-again = record {
-  answers = refl;
-  plan = refl;
-  held = λ held. let wrong : false ≡ true = held in cc;
-  fills = λ _ _. record { older = refl; newer = inserts-first; taken = refl; turns = refl };
-  turns = λ _ full. absurd (omega (arith, full));
-}
+held-wrong = (
+  λ did. let wrong : 2 ≡ 1 = ap (λ r. r.taken) (did.held refl) in omega (arith, wrong),
+  λ did. let wrong : 3 ≡ 2 = ap (λ p. p.room) did.plan in omega (arith, wrong),
+)
 
--- it isn't left to age
-receives-aging : Receives Plain (rotating 2 with_one with_none 0 4) 1
-    (rotating 2 with_one with_none 0 4) true → ⊥
-unfolding content chain are_in
-receives-aging did =
-    let wrong : 0 ≡ 1 = (did.fills refl (lit< tt)).taken in omega (arith, wrong)
+-- a list is one insert after the other, and no list changes nothing
+receives-all : ReceivesAll Plain (rotating 1 with_five with_none 0 4) (1 ∷ [])
+    (rotating 1 with_one with_none 0 5)
+    × (ReceivesAll Plain (rotating 3 with_five with_one 1 4) []
+    (rotating 3 with_five with_one 2 4) → ⊥)
+receives-all = (
+  (rotating 1 with_one with_none 0 5, false, turns, refl),
+  λ all. let wrong : 2 ≡ 1 = ap (λ r. r.taken) all in omega (arith, wrong),
+)
 
--- nor is its insert answered false
-receives-again_false : Receives Plain (rotating 2 with_one with_none 0 4) 1
-    (rotating 2 with_one with_one 1 4) false → ⊥
-unfolding content chain are_in
-receives-again_false did = let wrong : false ≡ true = did.answers in cc
+-- the rates of both are those of each as it is
+now : both_now (rotating 3 with_one with_none 0 1) ≡ part_now with_one ∷ part_now with_none ∷ []
+now = refl
 
--- a hash that the newer filter contains changes nothing
-receives-held : Receives Plain (rotating 2 with_five with_one 1 4) 1
-    (rotating 2 with_five with_one 1 4) true
-unfolding content chain are_in
-receives-held = record {
-  answers = refl;
-  plan = refl;
-  held = λ _. refl;
-  fills = λ absent. let wrong : true ≡ false = absent in cc;
-  turns = λ absent. let wrong : true ≡ false = absent in cc;
-}
-
--- it isn't counted
-receives-held_counted : Receives Plain (rotating 3 with_five with_one 1 4) 1
-    (rotating 3 with_five with_one 2 4) true → ⊥
-unfolding content chain are_in
-receives-held_counted did =
-    let wrong : 2 ≡ 1 = ap (λ r. r.taken) (did.held refl) in omega (arith, wrong)
-
--- no list changes nothing
-receives_all-none : ReceivesAll Plain (rotating 3 with_five with_one 1 4) []
-    (rotating 3 with_five with_one 1 4)
-receives_all-none = refl
-
-receives_all-none_counted : ReceivesAll Plain (rotating 3 with_five with_one 1 4) []
-    (rotating 3 with_five with_one 2 4) → ⊥
-receives_all-none_counted all =
-    let wrong : 2 ≡ 1 = ap (λ r. r.taken) all in omega (arith, wrong)
+-- or with as many items as it took, of which the older has none before the first turn
+taken : (both_taken (rotating 3 with_one with_none 1 1)
+    ≡ part_after with_one 3 ∷ part_after with_none 1 ∷ [])
+    × (both_taken (rotating 3 with_none with_one 1 0)
+    ≡ part_after with_none 0 ∷ part_after with_one 1 ∷ [])
+taken = (refl, refl)

@@ -63,7 +63,7 @@ any_contains kind filters hash = list_any (λ f. contains_in kind f hash) filter
 
 -- whether a filter that grows contains a hash
 abbrev pub has : {S : Type 0} → Kind → Growing S → ℕ → Bool
-has kind g hash = any_contains kind (g.older ++ g.newest ∷ []) hash
+has kind g hash = list_any (λ f. contains_in kind f hash) (g.older ++ g.newest ∷ [])
 
 -- a filter was made as the next behind these older ones, and then took this many hashes. None of
 -- them was contained in it, or in an older one, when it came

@@ -26,12 +26,6 @@ pub record Begins {S : Type 0} (kind : Kind) (old new : Growing S) : Type 0 wher
   pub newest : IsNumber kind old.plan (length old.older + 1) new.newest
   pub taken : new.taken ≡ 0
 
--- room was made for one more hash: the next filter was begun if the newest was full, and else
--- nothing changed
-pub record MakesRoom {S : Type 0} (kind : Kind) (old new : Growing S) : Type 0 where
-  pub spare : old.taken < newest_room old → new ≡ old
-  pub full : newest_room old ≤ old.taken → Begins kind old new
-
 -- the newest filter took one more hash, which it didn't contain
 pub record Adds {S : Type 0} (kind : Kind) (old : Growing S) (hash : ℕ) (new : Growing S) : Type 0
   where
@@ -41,13 +35,15 @@ pub record Adds {S : Type 0} (kind : Kind) (old : Growing S) (hash : ℕ) (new :
     pub taken : new.taken ≡ old.taken + 1
 
 -- an insert took the old filters to the new: the reply is whether one of them contained the hash.
--- If so nothing changed, and else the newest took it, once room was made
+-- If so nothing changed. Else the newest took it or, where that one was full, the next one, which
+-- was begun before
 pub record Takes {S : Type 0} (kind : Kind) (old : Growing S) (hash : ℕ) (new : Growing S)
     (reply : Bool) : Type 0 where
   pub answers : reply ≡ has kind old hash
   pub held : has kind old hash ≡ true → new ≡ old
-  pub adds : has kind old hash ≡ false
-      → (roomy : Growing S) × MakesRoom kind old roomy × Adds kind roomy hash new
+  pub spare : has kind old hash ≡ false → old.taken < newest_room old → Adds kind old hash new
+  pub full : has kind old hash ≡ false → newest_room old ≤ old.taken
+      → (next : Growing S) × Begins kind old next × Adds kind next hash new
 
 -- what a filter that grows tells of what the builders tell of its next filter
 abbrev pub of_builders : Option FilterError → Option GrowingError

@@ -1,8 +1,8 @@
 -- Laws of filters that grow, over what the contracts of the calls state. A hash may be any number.
-use Rattle.std.specs.Prelude.{◌≡◌, ℕ, zero, suc, ◌+◌, ◌*◌, ◌<◌, Bool, true, List, [], ◌∷◌, ◌++◌}
+use Rattle.std.specs.Prelude.{◌≡◌, ℕ, zero, suc, ◌+◌, ◌*◌, ◌<◌, Bool, List, [], ◌∷◌}
 use Rattle.bloom_parts.specs.Rates.{num_of, den_of}
 use Rattle.bloom_parts.specs.declared.math.rate.Rate.{Rate}
-use Rattle.bloom_growing.specs.Growing.{Growing, has, den_at}
+use Rattle.bloom_growing.specs.Growing.{Growing, den_at}
 use Rattle.bloom_growing.specs.GrowingInserts.{Takes}
 use Rattle.bloom_growing.specs.Kinds.{Kind}
 
@@ -11,16 +11,6 @@ abbrev pub TakesAll : {S : Type 0} → Kind → Growing S → List ℕ → Growi
 TakesAll kind old [] new = new ≡ old
 TakesAll {S} kind old (hash ∷ later) new = (next : Growing S) × (reply : Bool)
     × Takes kind old hash next reply × TakesAll kind next later new
-
--- a hash that is contained stays contained, whatever comes
-abbrev pub GrowingKeptLaw : (S : Type 0) → Type 0
-GrowingKeptLaw S = (kind : Kind) (old new : Growing S) (hashes : List ℕ) (hash : ℕ)
-    → TakesAll kind old hashes new → has kind old hash ≡ true → has kind new hash ≡ true
-
--- a hash that came is contained from then on
-abbrev pub GrowingFoundLaw : (S : Type 0) → Type 0
-GrowingFoundLaw S = (kind : Kind) (old new : Growing S) (earlier later : List ℕ) (hash : ℕ)
-    → TakesAll kind old (earlier ++ hash ∷ later) new → has kind new hash ≡ true
 
 -- the sum of the rates that the first m filters are sized for, as a fraction: its upper and its
 -- lower part

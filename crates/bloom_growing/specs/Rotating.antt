@@ -1,8 +1,7 @@
 -- A filter that rotates: two Bloom filters of one size. The newer one takes what it doesn't
 -- contain, and becomes the older one once it took as many hashes as it is for, as in M. Yoon,
 -- "Aging Bloom Filter with Two Active Buffers for Dynamic Sets", 2010.
-use Rattle.std.specs.Prelude.{◌≡◌, ℕ, ◌+◌, ◌-◌, ◌^◌, ◌<◌, ◌≤◌, min, Bool, true, false, ◌||◌, List, [], ◌∷◌, ◌++◌, nat_eq, if◌then◌else◌}
-use Rattle.std.specs.Set.{distinct_count}
+use Rattle.std.specs.Prelude.{◌≡◌, ℕ, ◌+◌, ◌-◌, ◌^◌, ◌<◌, ◌≤◌, min, Bool, true, false, ◌||◌, List, [], ◌∷◌, nat_eq, if◌then◌else◌}
 use Rattle.bloom_plain.specs.Filter.{Filter, Clears}
 use Rattle.bloom_growing.specs.Growing.{Plan, IsNumber, Took}
 use Rattle.bloom_growing.specs.GrowingRates.{Part, part_now, part_after}
@@ -77,12 +76,6 @@ abbrev pub ReceivesAll : {S : Type 0} → Kind → Rotating S → List ℕ → R
 ReceivesAll kind old [] new = new ≡ old
 ReceivesAll {S} kind old (hash ∷ later) new = (next : Rotating S) × (reply : Bool)
     × Receives kind old hash next reply × ReceivesAll kind next later new
-
--- a hash that came is contained while fewer different ones came behind it than each filter is for
-abbrev pub RecentFoundLaw : (S : Type 0) → Type 0
-RecentFoundLaw S = (kind : Kind) (old new : Rotating S) (earlier later : List ℕ) (hash : ℕ)
-    → ReceivesAll kind old (earlier ++ hash ∷ later) new
-    → distinct_count nat_eq later < new.plan.room → either_contains kind new hash ≡ true
 
 -- the rates of both filters as they are
 abbrev pub both_now : {S : Type 0} → Rotating S → List Part

@@ -1,5 +1,5 @@
 -- What one line does to a filter that rotates.
-use Rattle.std.proofs.Common.{◌≡◌, ◌≤◌, ℕ, suc, Bool, true, false, ◌||◌, cond, List, [], ◌∷◌, ◌++◌, length, map, Some, nat_eq, refl, sym, ◌∙◌, ap, subst, arith}
+use Rattle.std.proofs.Common.{◌≡◌, ◌<◌, ◌≤◌, ℕ, suc, Bool, true, false, ◌||◌, cond, List, [], ◌∷◌, ◌++◌, length, map, Some, nat_eq, refl, sym, ◌∙◌, ap, subst, arith}
 use Rattle.std.proofs.lemmas.Bool.{true≢false}
 use Rattle.std.proofs.lemmas.List.{map-append}
 use Rattle.std.proofs.lemmas.Slice.Eq.{bytes_eq-Decides}
@@ -7,7 +7,7 @@ use Rattle.std.specs.Cmp.{unsigned_Decides}
 use Rattle.std.specs.Set.{distinct_count, unique_keys, is_member}
 use Rattle.std.specs.Str.{bytes_eq}
 use Rattle.bloom_growing.specs.Kinds.{Kind}
-use Rattle.bloom_growing.specs.Rotating.{Rotating, either_contains, Receives, ReceivesAll, RecentFoundLaw}
+use Rattle.bloom_growing.specs.Rotating.{Rotating, either_contains, Receives, ReceivesAll}
 use Rattle.duplicates_engine.specs.Sieves.{IsNew}
 
 module _ (hash_of : List ℕ → ℕ) where
@@ -81,7 +81,10 @@ module _ (hash_of : List ℕ → ℕ) where
 
   -- a reply that is false tells that a line is new
   pub tells-new : {S : Type 0} (kind : Kind) (start r : Rotating S) (line : List ℕ) (reply : Bool)
-      → RecentFoundLaw S → reply ≡ either_contains kind r (hash_of line) → reply ≡ false
+      → ((kind : Kind) (old new : Rotating S) (earlier later : List ℕ) (hash : ℕ)
+      → ReceivesAll kind old (earlier ++ hash ∷ later) new
+      → distinct_count nat_eq later < new.plan.room → either_contains kind new hash ≡ true)
+      → reply ≡ either_contains kind r (hash_of line) → reply ≡ false
       → (lines : List (List ℕ)) → ReceivesAll kind start (map hash_of lines) r
       → IsNew (Some r.plan.room) lines line
   tells-new kind start r line reply law answers is lines came front behind other cut few same =

@@ -6,7 +6,6 @@ mod FillLawFacts
 mod FillLawLemmas
 pub mod FillLemmas
 mod FormLemmas
-mod GrowthFacts
 mod InsertedLemmas
 mod LentStepFacts
 mod LoadedFacts

@@ -11,7 +11,7 @@ use Rattle.bloom_files.proofs.FileLemmas.{file-text}
 use Rattle.bloom_files.proofs.streams.write_parts.Goals as goal
 
 pub returns-clause-file : goal.returns-clause-file
-returns-clause-file g c count shape whole =
+returns-clause-file g c =
     let from = g.W.Write.contents c.args.output.now in
     let to = g.W.Write.contents c.put_words.new.output in
     let text : c.head_bytes_in.result ++ bytes_of c.args.words.now
@@ -28,9 +28,9 @@ returns-clause-file g c count shape whole =
         narrow = omega (arith, c.right_seal-seal.type_inv, c.right_seal-seal.ensures);
         sealed = inr refl;
         is = refl;
-        count = count;
-        shape = shape;
-        whole = whole;
+        count = c.requires.count;
+        shape = c.requires.shape;
+        whole = c.requires.whole;
       };
     })
     c.put_words.ensures.whole

@@ -1,12 +1,11 @@
-use Rattle.std.proofs.Common.{◌≡◌, ℕ, List, length, refl, subst}
+use Rattle.std.proofs.Common.{ℕ, List, subst}
 use Rattle.std.proofs.lemmas.Result.{on_ok_weaker}
 use Rattle.std.specs.Prelude.{OnErr, OnOk}
 use Rattle.std.specs.Io.KnownBytes.{Appends}
 use Rattle.lines.specs.Writing.{AppendsPart}
-use Rattle.bloom_plain.specs.Filter.{IsShape}
 use Rattle.bloom_files.specs.declared.head.Head.{Head}
 use Rattle.bloom_files.specs.declared.layout.Layout.{Layout}
-use Rattle.bloom_files.specs.FileLayouts.{AreWhole, WritesParts, sealed_file}
+use Rattle.bloom_files.specs.FileLayouts.{WritesParts, sealed_file}
 use Rattle.bloom_files.proofs.filter.FilterFile.write_file.Goals as goal
 
 pub returns-clause-file : goal.returns-clause-file
@@ -15,9 +14,7 @@ returns-clause-file g c =
     let to = g.W.Write.contents c.write_parts.new.output in
     let head = c.head-head.ensures in
     let parts : (layout : Layout) (h : Head) (words : List ℕ) → Type 0 = λ layout h words.
-    length words ≡ h.num_words → IsShape (length words) h.num_hashes
-    → AreWhole layout (length words)
-    → OnOk c.write_parts.result (WritesParts layout from to h words) in
+    OnOk c.write_parts.result (WritesParts layout from to h words) in
     on_ok_weaker c.write_parts.result
     (λ written. record {
       bytes = written.bytes;
@@ -25,7 +22,7 @@ returns-clause-file g c =
       is_file = record { parts = written.is_file; fits = head.range };
     })
     (subst (λ t. t) (λ i. parts (c.layout.ensures i) (head.head i) (c.words.ensures i))
-    c.write_parts.ensures.file refl head.shape head.whole)
+    c.write_parts.ensures.file)
 
 pub returns-clause-whole : goal.returns-clause-whole
 returns-clause-whole g c =
