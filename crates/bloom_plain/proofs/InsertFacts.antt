@@ -1,12 +1,15 @@
--- An insert, at values from outside: cases that hold, and cases that differ from one of these in
--- one thing and don't hold. Hash 1 has the positions 0, 20 and 32 among 64 bits.
-use Rattle.std.proofs.Common.{◌≡◌, ◌<◌, ◌^◌, ℕ, Bool, true, false, ◌||◌, [], ◌∷◌, refl, ap, ◌∙◌, arith, lit<}
+-- Inserts of one hash and of lists, at values from outside: for each definition that public clauses
+-- cite a case that holds and cases as near as can be that don't. Among 64 bits and with two hashes,
+-- hash 0 has position 0 alone, and hash 1 has the positions 0 and 20.
+use Rattle.std.proofs.Common.{◌≡◌, ◌-◌, ◌<◌, ◌^◌, ℕ, Bool, true, false, ◌||◌, [], ◌∷◌, refl, ap, ◌∙◌, arith, lit<}
 use Rattle.bloom_parts.specs.Chain.{chain}
 use Rattle.bloom_parts.specs.Content.{content}
+use Rattle.bloom_parts.specs.Operations.{Insert, state_after}
 use Rattle.bloom_parts.specs.Places.{positions, are_in}
 use Rattle.bloom_plain.specs.Filter.{contains, Inserts}
+use Rattle.bloom_plain.specs.Replies.{InsertsAll, InsertsItems}
 use Rattle.bloom_plain.proofs.CaseLemmas.{alike_below, content-case, content-past, positions-past}
-use Rattle.bloom_plain.proofs.FilterFacts.{filter}
+use Rattle.bloom_plain.proofs.FilterFacts.{filter, one_word}
 
 -- a hash is inserted into one word, where the words agree bit by bit
 pub inserts-word : (old new k hash : ℕ) (reply : Bool) → hash < 2 ^ 64
@@ -24,63 +27,66 @@ inserts-word old new k hash reply fits answers alike = record {
 }
 
 -- an insert of hash 1 into a zero word sets its two positions
-pub inserts-first : Inserts (filter (0 ∷ []) 2 7) 1 (filter (1048577 ∷ []) 2 7) false
+pub inserts-first : Inserts (one_word 0) 1 (one_word 1048577) false
 unfolding content positions chain are_in
 inserts-first = inserts-word 0 1048577 2 1 false (lit< tt) refl refl
 
 -- an insert of hash 1 into a word that has its first position sets the second
-pub inserts-rest : Inserts (filter (1 ∷ []) 2 7) 1 (filter (1048577 ∷ []) 2 7) false
+pub inserts-rest : Inserts (one_word 1) 1 (one_word 1048577) false
 unfolding content positions chain are_in
 inserts-rest = inserts-word 1 1048577 2 1 false (lit< tt) refl refl
 
--- a second insert of hash 1 finds it and changes nothing
-pub inserts-again : Inserts (filter (1048577 ∷ []) 2 7) 1 (filter (1048577 ∷ []) 2 7) true
-unfolding content positions chain are_in
-inserts-again = inserts-word 1048577 1048577 2 1 true (lit< tt) refl refl
-
 -- an insert of hash 0 sets position 0, which it has twice
-pub inserts-zero : Inserts (filter (0 ∷ []) 2 7) 0 (filter (1 ∷ []) 2 7) false
+pub inserts-zero : Inserts (one_word 0) 0 (one_word 1) false
 unfolding content positions chain are_in
 inserts-zero = inserts-word 0 1 2 0 false (lit< tt) refl refl
 
--- with three hashes, an insert of hash 1 sets three positions
-inserts-three : Inserts (filter (0 ∷ []) 3 7) 1 (filter (4296015873 ∷ []) 3 7) false
+-- a hash that was contained is told so, and one that wasn't isn't; no position of the hash stays
+-- clear, none beside them is set or cleared, and shape and hasher stay
+inserts-cases : Inserts (one_word 1048577) 1 (one_word 1048577) true
+    × (Inserts (one_word 0) 1 (one_word 1048577) true → ⊥)
+    × (Inserts (one_word 0) 1 (one_word 1) false → ⊥)
+    × (Inserts (one_word 0) 1 (one_word 1048585) false → ⊥)
+    × (Inserts (one_word 8) 1 (one_word 1048577) false → ⊥)
+    × (Inserts (one_word 0) 1 (filter (1048577 ∷ 0 ∷ []) 2 7) false → ⊥)
+    × (Inserts (one_word 0) 1 (filter (1048577 ∷ []) 2 8) false → ⊥)
 unfolding content positions chain are_in
-inserts-three = inserts-word 0 4296015873 3 1 false (lit< tt) refl refl
+inserts-cases = (
+  inserts-word 1048577 1048577 2 1 true (lit< tt) refl refl,
+  λ did. let wrong : true ≡ false = did.answers in cc,
+  λ did. let wrong : false ≡ true = did.bits 20 in cc,
+  λ did. let wrong : true ≡ false = did.bits 3 in cc,
+  λ did. let wrong : false ≡ true = did.bits 3 in cc,
+  λ did. omega (arith, did.shape.words),
+  λ did. omega (arith, did.hasher),
+)
 
--- an insert of a hash that was not contained doesn't answer true
-inserts-reply : Inserts (filter (0 ∷ []) 2 7) 1 (filter (1048577 ∷ []) 2 7) true → ⊥
-unfolding content chain are_in
-inserts-reply did = let wrong : true ≡ false = did.answers in cc
+-- hashes 1 and 0 are inserted into a zero word, and hash 0 is found
+pub inserts_all : InsertsAll (one_word 0) (1 ∷ 0 ∷ []) (one_word 1048577)
+unfolding content positions chain are_in
+inserts_all = (
+  false ∷ true ∷ [],
+  record {
+    bits = content-case (1048577 ∷ [])
+        (state_after 64 2 (content (0 ∷ [])) (Insert 1 ∷ Insert 0 ∷ [])) refl
+        (λ p past. rw (positions-past 64 2 0 p (lit< tt) (lit< tt) past)
+        (rw (positions-past 64 2 1 p (lit< tt) (lit< tt) past) (content-past (0 ∷ []) p past)));
+    answers = refl;
+    shape = record { words = refl; hashes = refl };
+    hasher = refl;
+  },
+)
 
--- an insert of a hash that was contained doesn't answer false
-inserts-reply_false : Inserts (filter (1048577 ∷ []) 2 7) 1 (filter (1048577 ∷ []) 2 7) false → ⊥
-unfolding content chain are_in
-inserts-reply_false did = let wrong : false ≡ true = did.answers in cc
-
--- an insert leaves no position of its hash clear
-inserts-less : Inserts (filter (0 ∷ []) 2 7) 1 (filter (1 ∷ []) 2 7) false → ⊥
+-- a list of inserts leaves out no hash, and items are inserted by their hashes under the filter's
+-- hasher alone: here the item less the hasher's number
+inserts_items-cases : InsertsItems (λ hasher item. item - hasher) (one_word 0) (8 ∷ 7 ∷ [])
+    (one_word 1048577)
+    × (InsertsItems (λ hasher item. item - hasher) (filter (0 ∷ []) 2 8) (8 ∷ 7 ∷ [])
+    (filter (1048577 ∷ []) 2 8) → ⊥)
+    × (InsertsAll (one_word 0) (0 ∷ 1 ∷ []) (one_word 1) → ⊥)
 unfolding content positions chain
-inserts-less did = let wrong : false ≡ true = did.bits 20 in cc
-
--- an insert sets no position but those of its hash
-inserts-more : Inserts (filter (0 ∷ []) 2 7) 1 (filter (1048585 ∷ []) 2 7) false → ⊥
-unfolding content positions chain
-inserts-more did = let wrong : true ≡ false = did.bits 3 in cc
-
--- an insert clears no position
-inserts-off : Inserts (filter (8 ∷ []) 2 7) 1 (filter (1048577 ∷ []) 2 7) false → ⊥
-unfolding content positions chain
-inserts-off did = let wrong : false ≡ true = did.bits 3 in cc
-
--- an insert adds no zero word
-inserts-words : Inserts (filter (0 ∷ []) 2 7) 1 (filter (1048577 ∷ 0 ∷ []) 2 7) false → ⊥
-inserts-words did = let wrong : 1 ≡ 2 = did.shape.words in omega (arith, wrong)
-
--- an insert keeps the number of hashes
-inserts-hashes : Inserts (filter (0 ∷ []) 2 7) 1 (filter (1048577 ∷ []) 3 7) false → ⊥
-inserts-hashes did = let wrong : 2 ≡ 3 = did.shape.hashes in omega (arith, wrong)
-
--- an insert keeps the hasher
-inserts-hasher : Inserts (filter (0 ∷ []) 2 7) 1 (filter (1048577 ∷ []) 2 8) false → ⊥
-inserts-hasher did = let wrong : 8 ≡ 7 = did.hasher in omega (arith, wrong)
+inserts_items-cases = (
+  inserts_all,
+  λ did. let wrong : true ≡ false = did.1.bits 20 in cc,
+  λ did. let wrong : false ≡ true = did.1.bits 20 in cc,
+)

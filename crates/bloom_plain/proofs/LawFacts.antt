@@ -1,62 +1,30 @@
--- The laws on inserts, look-ups and lists, each used at filters, hashes and lists that differ where
--- they may.
-use Rattle.std.proofs.Common.{◌≡◌, ℕ, Bool, true, false, ◌&&◌, [], ◌∷◌, map, All, refl, sym, ap, lit<, lit≤}
+-- The laws of filters and of builders, each used at filters, hashes and lists that differ where
+-- they may. The laws of combinations are in SetFacts.
+use Rattle.std.proofs.Common.{◌≡◌, ◌↔◌, ◌*◌, ◌^◌, ◌<◌, ℕ, true, false, ◌&&◌, [], ◌∷◌, map, refl, sym, ap, lit<}
+use Rattle.std.specs.Prelude.{IsTrue}
 use Rattle.std.proofs.lemmas.Bool.{eqb-true}
 use Rattle.std.proofs.lemmas.List.Elements.{All-from_recursion}
 use Rattle.bloom_parts.specs.Chain.{chain}
-use Rattle.bloom_parts.specs.Content.{content}
-use Rattle.bloom_parts.specs.Operations.{Insert, Contains, Clear, Union, Intersect}
+use Rattle.bloom_parts.specs.Content.{content, AreWords}
+use Rattle.bloom_parts.specs.Operations.{Insert, Contains, Union, Intersect}
 use Rattle.bloom_parts.specs.Places.{positions, are_in}
+use Rattle.bloom_parts.specs.Rates.{num_of, den_of}
+use Rattle.bloom_plain.specs.Builders.{Start, RateStart, same_start, same_rate_start}
 use Rattle.bloom_plain.specs.CommandOf.{operation_of}
-use Rattle.bloom_plain.specs.Filter.{Filter, HasShape, contains}
-use Rattle.bloom_plain.specs.Laws.{InsertLaw, KeptByInsertLaw, KeptByUnionLaw, Spares, KeptByListLaw, KeptByInsertsLaw, IntersectionLaw, UnionLaw, ClearLaw, JoinedListsLaw, FoundLaw, FoundAfterInsertsLaw, FoundAfterReplayLaw}
-use Rattle.bloom_plain.specs.Replies.{CarriesOut}
+use Rattle.bloom_plain.specs.Filter.{Filter, SameShape, contains, same_filter}
+use Rattle.bloom_plain.specs.Laws.{InsertLaw, KeptByInsertLaw, KeptByUnionLaw, Spares, KeptByListLaw, KeptByInsertsLaw, IntersectionLaw, UnionLaw, ClearLaw, SameContent, Rebuilds, RebuiltLaw, EqualityLaw, EqualContentLaw, EqualStartsLaw, EqualRateStartsLaw, JoinedListsLaw, FoundLaw, FoundAfterInsertsLaw, FoundAfterReplayLaw, UnitedInsertsLaw}
+use Rattle.bloom_plain.specs.Replies.{CarriesOut, InsertsAll}
 use Rattle.bloom_plain.specs.declared.bloom.command.Command.TheVariants as command
-use Rattle.bloom_plain.proofs.FilterFacts.{filter}
-use Rattle.bloom_plain.proofs.InsertFacts.{inserts-rest, inserts-zero}
-use Rattle.bloom_plain.proofs.InsertListFacts.{inserts_all}
-use Rattle.bloom_plain.proofs.ListFacts.{with_others, carried_out-others, carried_out-clear, eight}
-use Rattle.bloom_plain.specs.ListLaws.{carries_out-append}
+use Rattle.bloom_plain.proofs.BuilderFacts.{start, half, quarters}
+use Rattle.bloom_plain.proofs.FilterFacts.{filter, one_word, shape}
+use Rattle.bloom_plain.proofs.InsertFacts.{inserts-first, inserts-rest, inserts-zero, inserts_all}
+use Rattle.bloom_plain.proofs.ListFacts.{one_hash, six, eight, commands, carried_out}
 use Rattle.bloom_plain.proofs.ReplyLemmas.{carries_out-insert, carries_out-contains}
-use Rattle.bloom_plain.proofs.SetFacts.{clears, unites, unites-words, intersects}
-
--- a filter of one word and two hashes, under hasher 7
-abbrev pub one_word : ℕ → Filter ℕ
-one_word word = filter (word ∷ []) 2 7
-
--- a filter of one word and two hashes has a shape
-pub shape : (word : ℕ) → HasShape (one_word word)
-shape word = record {
-  some_words = lit≤ tt;
-  few_words = lit< tt;
-  some_hashes = lit≤ tt;
-  few_hashes = lit< tt;
-}
+use Rattle.bloom_plain.proofs.SetFacts as set
 
 -- a hash whose first position among 64 bits is 2
 abbrev at_two : ℕ
 at_two = 576460752303423488
-
--- inserts, look-ups and unions spare every position
-spares-others : (hash : ℕ) (other : ℕ → Bool)
-    → All (Spares (positions 64 2 hash)) (Insert 5 ∷ Contains 5 ∷ Union other ∷ [])
-spares-others hash other =
-    All-from_recursion (Spares (positions 64 2 hash)) (Insert 5 ∷ Contains 5 ∷ Union other ∷ [])
-    (tt, (tt, (tt, tt)))
-
--- a clear spares no position
-spares-clear : (hash : ℕ) → Spares (positions 64 2 hash) Clear → ⊥
-spares-clear hash spare = spare
-
--- an intersection with 6 spares position 2
-spares-two : Spares (positions 64 1 at_two) (Intersect (content (6 ∷ [])))
-unfolding content positions chain
-spares-two p is = ap (content (6 ∷ [])) (eqb-true p 2 is)
-
--- an intersection with 6 doesn't spare position 0
-spares-zero : Spares (positions 64 1 0) (Intersect (content (6 ∷ []))) → ⊥
-unfolding content positions chain
-spares-zero spare = let wrong : false ≡ true = spare 0 refl in cc
 
 -- hash 0 is contained where position 0 is set
 zero-found : contains (one_word 1) 0 ≡ true
@@ -64,98 +32,127 @@ unfolding content chain are_in
 zero-found = refl
 
 -- an insert of hash 1 answers what was found before, and afterwards the hash is contained
-insert-used : InsertLaw ℕ
+from_insert : InsertLaw ℕ
     → (false ≡ contains (one_word 1) 1) × (contains (one_word 1048577) 1 ≡ true)
-insert-used law = law (one_word 1) (one_word 1048577) 1 false inserts-rest
+from_insert law = law (one_word 1) (one_word 1048577) 1 false inserts-rest
 
 -- an insert of hash 1 keeps hash 0 contained
-kept_by_insert-used : KeptByInsertLaw ℕ → contains (one_word 1048577) 0 ≡ true
-kept_by_insert-used law =
-    law (one_word 1) (one_word 1048577) 1 0 false inserts-rest zero-found
+from_kept_by_insert : KeptByInsertLaw ℕ → contains (one_word 1048577) 0 ≡ true
+from_kept_by_insert law = law (one_word 1) (one_word 1048577) 1 0 false inserts-rest zero-found
 
--- a list of one insert of hash 1 keeps hash 0 contained
-kept_by_inserts-used : KeptByInsertsLaw ℕ → contains (one_word 1048577) 0 ≡ true
-kept_by_inserts-used law =
+-- and so does a list of that insert
+from_kept_by_inserts : KeptByInsertsLaw ℕ → contains (one_word 1048577) 0 ≡ true
+from_kept_by_inserts law =
     law (one_word 1) (one_word 1048577) (1 ∷ []) 0
     (false ∷ [], carries_out-insert (one_word 1) 1 (one_word 1048577) false inserts-rest) zero-found
 
 -- a union of 5 with 6 keeps hash 0 contained, which 6 doesn't contain
-kept_by_union-used : KeptByUnionLaw ℕ → contains (one_word 7) 0 ≡ true
+from_kept_by_union : KeptByUnionLaw ℕ → contains (one_word 7) 0 ≡ true
 unfolding content chain are_in
-kept_by_union-used law = law (one_word 5) (filter (6 ∷ []) 2 8) (one_word 7) 0 unites refl
+from_kept_by_union law = law (one_word 5) set.six (one_word 7) 0 set.unites-cases.0 refl
+
+-- an intersection with 6 spares position 2
+spares-two : Spares (positions 64 1 at_two) (Intersect (content (6 ∷ [])))
+unfolding content positions chain
+spares-two p is = ap (content (6 ∷ [])) (eqb-true p 2 is)
 
 -- a list of four commands, of which one intersects with 6, keeps a hash of position 2 contained
-kept_by_list-used : KeptByListLaw ℕ → contains (filter (13 ∷ []) 1 7) at_two ≡ true
+from_kept_by_list : KeptByListLaw ℕ → contains (one_hash 13) at_two ≡ true
 unfolding content positions chain are_in
-kept_by_list-used law =
-    law (filter (5 ∷ []) 1 7) (filter (13 ∷ []) 1 7) (map operation_of with_others) at_two
-    (false ∷ false ∷ []) carried_out-others
-    (All-from_recursion (Spares (positions 64 1 at_two)) (map operation_of with_others)
+from_kept_by_list law =
+    law (one_hash 5) (one_hash 13) (map operation_of commands) at_two (false ∷ true ∷ [])
+    carried_out
+    (All-from_recursion (Spares (positions 64 1 at_two)) (map operation_of commands)
     (spares-two, (tt, (tt, (tt, tt))))) refl
 
 -- the intersection of 5 and 6 contains hash 0 exactly if both do
-intersection-used : IntersectionLaw ℕ
-    → contains (one_word 4) 0 ≡ (contains (one_word 5) 0 && contains (one_word 6) 0)
-intersection-used law =
-    law (one_word 5) (filter (6 ∷ []) 2 8) (one_word 4) 0
-    (record { words = refl; hashes = refl }) intersects
+from_intersection : IntersectionLaw ℕ
+    → contains (one_word 4) 0 ≡ (contains (one_word 5) 0 && contains set.six 0)
+from_intersection law =
+    law (one_word 5) set.six (one_word 4) 0 (record { words = refl; hashes = refl })
+    set.intersects-cases.0
 
--- a union contains hash 0, which the first filter contained
-union-used : UnionLaw ℕ → contains (one_word 7) 0 ≡ true
+-- a union contains hash 0, which the first filter contained or the other
+from_union : UnionLaw ℕ → (contains (one_word 7) 0 ≡ true)
+    × (contains (filter (7 ∷ []) 2 8) 0 ≡ true)
 unfolding content chain are_in
-union-used law =
-    law (one_word 5) (filter (6 ∷ []) 2 8) (one_word 7) 0
-    (record { words = refl; hashes = refl }) unites refl
-
--- a union contains hash 0, which the other filter contained
-union-used_other : UnionLaw ℕ → contains (filter (7 ∷ []) 2 8) 0 ≡ true
-unfolding content chain are_in
-union-used_other law =
-    law (filter (6 ∷ []) 2 8) (one_word 5) (filter (7 ∷ []) 2 8) 0
-    (record { words = refl; hashes = refl }) (unites-words 6 5 7 8 7 refl) refl
+from_union law = (
+  law (one_word 5) set.six (one_word 7) 0 (record { words = refl; hashes = refl })
+      set.unites-cases.0 refl,
+  law set.six (one_word 5) (filter (7 ∷ []) 2 8) 0 (record { words = refl; hashes = refl })
+      (set.unites-words 6 5 7 8 7 refl) refl,
+)
 
 -- a cleared filter doesn't contain hash 1
-clear-used : ClearLaw ℕ → contains (one_word 0) 1 ≡ false
-clear-used law = law (one_word 5) (one_word 0) 1 (shape 5) clears
+from_clear : ClearLaw ℕ → contains (one_word 0) 1 ≡ false
+from_clear law = law (one_word 5) (one_word 0) 1 (shape 5) set.clears
 
--- a list looks hash 0 up and then inserts hash 1
-look-insert : CarriesOut (one_word 1) (Contains 0 ∷ Insert 1 ∷ []) (one_word 1048577)
-    (true ∷ false ∷ [])
-look-insert =
-    carries_out-append (one_word 1) (one_word 1) (one_word 1048577) (Contains 0 ∷ [])
-    (Insert 1 ∷ []) (true ∷ []) (false ∷ [])
+-- an insert of hash 0 and a look-up of it make one list
+from_joined : JoinedListsLaw ℕ
+    → CarriesOut (one_word 0) (Insert 0 ∷ Contains 0 ∷ []) (one_word 1) (false ∷ true ∷ [])
+from_joined law =
+    law (one_word 0) (one_word 1) (one_word 1) (Insert 0 ∷ []) (Contains 0 ∷ []) (false ∷ [])
+    (true ∷ []) (carries_out-insert (one_word 0) 0 (one_word 1) false inserts-zero)
     (carries_out-contains (one_word 1) 0 true (sym zero-found))
-    (carries_out-insert (one_word 1) 1 (one_word 1048577) false inserts-rest)
 
--- an insert of hash 0 and a list that looks it up and inserts hash 1 make one list of three
--- commands
-joined-used : JoinedListsLaw ℕ
-    → CarriesOut (one_word 0) (Insert 0 ∷ Contains 0 ∷ Insert 1 ∷ []) (one_word 1048577)
-    (false ∷ true ∷ false ∷ [])
-joined-used law =
-    law (one_word 0) (one_word 1) (one_word 1048577) (Insert 0 ∷ []) (Contains 0 ∷ Insert 1 ∷ [])
-    (false ∷ []) (true ∷ false ∷ [])
-    (carries_out-insert (one_word 0) 0 (one_word 1) false inserts-zero) look-insert
+-- hash 0 is found that was inserted after an intersection and before a union
+from_found : FoundLaw ℕ → contains (one_hash 13) 0 ≡ true
+from_found law =
+    law (one_hash 5) (one_hash 13) (Intersect (content (6 ∷ [])) ∷ [])
+    (Union (content (8 ∷ [])) ∷ Contains 0 ∷ []) 0 (false ∷ true ∷ []) carried_out
+    (All-from_recursion (Spares (positions 64 1 0)) (Union (content (8 ∷ [])) ∷ Contains 0 ∷ [])
+    (tt, (tt, tt)))
 
--- hash 0 is found that was inserted after a clear and before a union
-found-used : FoundLaw ℕ → contains (filter (9 ∷ []) 1 7) 0 ≡ true
-found-used law =
-    law (filter (5 ∷ []) 1 7) (filter (9 ∷ []) 1 7) (Clear ∷ []) (Union (content (8 ∷ [])) ∷ [])
-    0 (false ∷ []) carried_out-clear
-    (All-from_recursion (Spares (positions 64 1 0)) (Union (content (8 ∷ [])) ∷ []) (tt, tt))
+-- and so it is after `replay`
+from_found_after_replay : FoundAfterReplayLaw ℕ → contains (one_hash 13) 0 ≡ true
+from_found_after_replay law =
+    law (one_hash 5) (one_hash 13) (command.Intersect six ∷ [])
+    (command.Union eight ∷ command.Contains 0 ∷ []) 0 (false ∷ true ∷ []) carried_out
+    (All-from_recursion (λ c. Spares (positions 64 1 0) (operation_of c))
+    (command.Union eight ∷ command.Contains 0 ∷ []) (tt, (tt, tt)))
 
--- hash 0 is found after `replay` of a list that clears, inserts it and unites
-found_after_replay-used : FoundAfterReplayLaw ℕ → contains (filter (9 ∷ []) 1 7) 0 ≡ true
-found_after_replay-used law =
-    law (filter (5 ∷ []) 1 7) (filter (9 ∷ []) 1 7) (command.Clear ∷ []) (command.Union eight ∷ [])
-    0 (false ∷ []) carried_out-clear
-    (All-from_recursion (λ c. Spares (positions 64 1 0) (operation_of c)) (command.Union eight ∷ [])
-    (tt, tt))
+-- the first and the last of two inserted hashes are contained after both
+from_found_after_inserts : FoundAfterInsertsLaw ℕ → (contains (one_word 1048577) 1 ≡ true)
+    × (contains (one_word 1048577) 0 ≡ true)
+from_found_after_inserts law = (
+  law (one_word 0) (one_word 1048577) [] (0 ∷ []) 1 inserts_all,
+  law (one_word 0) (one_word 1048577) (1 ∷ []) [] 0 inserts_all,
+)
 
--- the first of two inserted hashes is contained after both
-found_after_inserts-used : FoundAfterInsertsLaw ℕ → contains (one_word 1048577) 1 ≡ true
-found_after_inserts-used law = law (one_word 0) (one_word 1048577) [] (0 ∷ []) 1 inserts_all
+-- the union of a filter with hash 0 and one with hash 1 is what inserts of both make
+from_united_inserts : UnitedInsertsLaw ℕ
+    → InsertsAll (one_word 0) (0 ∷ 1 ∷ []) (one_word 1048577)
+unfolding content
+from_united_inserts law =
+    law (one_word 0) (one_word 1) (one_word 1048577) (one_word 1048577) (0 ∷ []) (1 ∷ [])
+    (false ∷ [], carries_out-insert (one_word 0) 0 (one_word 1) false inserts-zero)
+    (false ∷ [], carries_out-insert (one_word 0) 1 (one_word 1048577) false inserts-first)
+    (set.unites-words 1 1048577 1048577 7 7 refl)
 
--- the second of two inserted hashes is contained after both
-found_after_inserts-used_last : FoundAfterInsertsLaw ℕ → contains (one_word 1048577) 0 ≡ true
-found_after_inserts-used_last law = law (one_word 0) (one_word 1048577) (1 ∷ []) [] 0 inserts_all
+-- what is made of the parts of a filter of no hashes or one equals it and answers alike
+from_rebuilt : RebuiltLaw ℕ → (made : Filter ℕ) → Rebuilds (one_word 5) made
+    → (made ≡ one_word 5) × ((hash : ℕ) → contains made hash ≡ contains (one_word 5) hash)
+from_rebuilt law made did = law (one_word 5) made (shape 5) did
+
+-- a filter equals one of word 5 and two hashes exactly if it has these, whatever its hasher
+from_equality : EqualityLaw ℕ → IsTrue (same_filter (one_word 5) (filter (5 ∷ []) 2 8))
+    × ((g : Filter ℕ) → IsTrue (same_filter (one_word 5) g) ↔ ((5 ∷ [] ≡ g.words) × (2 ≡ g.hashes)))
+from_equality law =
+    ((law (one_word 5) (filter (5 ∷ []) 2 8)).1 (refl, refl), λ g. law (one_word 5) g)
+
+-- filters of one shape, one of which has word 5, are equal exactly if their contents are
+from_equal_content : EqualContentLaw ℕ → (g : Filter ℕ) → AreWords g.words
+    → SameShape (one_word 5) g → IsTrue (same_filter (one_word 5) g) ↔ SameContent (one_word 5) g
+from_equal_content law g fit same =
+    law (one_word 5) g (All-from_recursion (λ w. w < 2 ^ 64) (5 ∷ []) (lit< tt, tt)) fit same
+
+-- builders equal one of word 5 exactly if they have this word, whatever their hashers
+from_equal_starts : EqualStartsLaw ℕ → (b : Start ℕ)
+    → IsTrue (same_start (start (5 ∷ []) 7) b) ↔ (5 ∷ [] ≡ b.words)
+from_equal_starts law b = law (start (5 ∷ []) 7) b
+
+-- builders at one half and at two quarters are equal, and any of a den that is twice its num
+from_equal_rate_starts : EqualRateStartsLaw ℕ → IsTrue (same_rate_start half quarters)
+    × ((b : RateStart ℕ)
+    → IsTrue (same_rate_start half b) ↔ (1 * den_of b.rate ≡ num_of b.rate * 2))
+from_equal_rate_starts law = ((law half quarters).1 refl, λ b. law half b)
