@@ -1,175 +1,131 @@
--- Which bytes are the file of a filter: cases that hold, and cases that nearly do. The worked
--- filter and its file are those of `FileFacts`.
-use Rattle.std.proofs.Common.{◌≡◌, ℕ, zero, suc, ◌^◌, ◌<◌, List, [], ◌∷◌, ◌++◌, length, get_or, refl, ap, ◌∙◌, arith, inl, inr}
-use Rattle.bloom_parts.specs.Content.{AreWords}
+-- The file of a filter, and the laws of files: cases that hold, and the nearest that don't. The
+-- files and their filters are those of `Cases`.
+use Rattle.std.proofs.Common.{◌≡◌, ℕ, ◌^◌, ◌<◌, List, [], ◌∷◌, ◌++◌, length, get_or, true, false, None, Some, refl, sym, ap, subst, ◌∙◌, append-nil, arith, lit<}
+use Rattle.std.proofs.lemmas.List.Elements.{All-from_recursion}
+use Rattle.bloom_parts.specs.declared.hasher.CloneBuildHasher.{CloneBuildHasher}
+use Rattle.bloom_parts.specs.declared.hasher.sip.RandomDefaultHasher.{RandomDefaultHasher}
+use Rattle.bloom_parts.specs.Chain.{chain}
+use Rattle.bloom_parts.specs.Content.{content}
+use Rattle.bloom_parts.specs.Places.{are_in}
 use Rattle.bloom_parts.specs.Sip.{sip, start, round, absorb, answer, whole_words, rest}
-use Rattle.bloom_plain.specs.Data.{DefaultFilter}
-use Rattle.bloom_files.specs.declared.layout.Layout.TheVariants.{Whole}
-use Rattle.bloom_files.specs.File.{FitsWords, HasOwnKey, bytes_of, file_with, head_of}
-use Rattle.bloom_files.specs.FilterFiles.{IsFileOf, file_of}
-use Rattle.bloom_files.proofs.FileFacts.{crabs, filter, first, head_with, its_seal, its_word, key_first, key_last, low, unsealed, worked}
+use Rattle.bloom_plain.specs.Data.{AnswerAlike, DefaultFilter}
+use Rattle.bloom_blocked.specs.Blocked.{contains_in_line}
+use Rattle.bloom_files.specs.declared.error.FileError.TheVariants.{Blocked, NotBlocked}
+use Rattle.bloom_files.specs.declared.layout.Layout.TheVariants.{Whole, Lines}
+use Rattle.bloom_files.specs.File.{HasOwnKey, bytes_of}
+use Rattle.bloom_files.specs.FileLayouts.{refusal_in}
+use Rattle.bloom_files.specs.FilterFiles.{BlockedRefusedLaw, FileLaw, IsFileOf, NotBlockedRefusedLaw, ReadableLaw, ReadsFile, SameFileItemsLaw, WritesFile, file_of}
+use Rattle.bloom_files.proofs.Cases.{crabs, filter, line_crabs, line_file, line_words, unsealed, worked}
+use Rattle.bloom_files.proofs.LayoutFacts.{differs, is_file-lines, is_file-unsealed, is_file-worked}
 
--- one word of 64 bits
-one-word : (word : ℕ) → word < 2 ^ 64 → AreWords (word ∷ [])
-one-word word below zero d within = below
-one-word word below (suc k) d within = absurd (omega (arith, within))
-
--- the words and the key of the worked filter have 64 bits each
-pub fits-worked : FitsWords crabs
-fits-worked = record {
-  words = one-word 0x1080_0080_4000_1400 (omega arith);
-  low = omega arith;
-  high = omega arith;
-}
-
--- the greatest numbers of 64 bits fit
-fits-greatest : FitsWords (filter (0xffff_ffff_ffff_ffff ∷ []) 3
-    0xffff_ffff_ffff_ffff 0xffff_ffff_ffff_ffff)
-fits-greatest = record {
-  words = one-word 0xffff_ffff_ffff_ffff (omega arith);
-  low = omega arith;
-  high = omega arith;
-}
-
--- a word of 65 bits doesn't fit
-fits-word : FitsWords (filter (0 ∷ 0x1_0000_0000_0000_0000 ∷ []) 3 0 0) → ⊥
-fits-word is = omega (arith, is.words 1 0 (omega arith))
-
--- neither a first nor a second word of the key of 65 bits fits
-fits-low : FitsWords (filter (0 ∷ []) 3 0x1_0000_0000_0000_0000 0) → ⊥
-fits-low is = omega (arith, is.low)
-
-fits-high : FitsWords (filter (0 ∷ []) 3 0 0x1_0000_0000_0000_0000) → ⊥
-fits-high is = omega (arith, is.high)
-
--- the worked file and the one without a seal are files of the worked filter
-pub is_file-worked : IsFileOf Whole worked crabs
+-- the file of each filter is the file that the other program wrote
+files : (file_of Whole crabs ≡ worked) × (file_of Lines line_crabs ≡ line_file)
 unfolding bytes_of sip start round absorb answer whole_words rest
-is_file-worked = record {
-  parts = record {
-    seal = 0x5d9d_8dee_d40a_1ba8;
-    narrow = omega arith;
-    sealed = inr refl;
-    is = refl;
-    count = refl;
-    shape = record {
-      some_words = omega arith;
-      few_words = omega arith;
-      some_hashes = omega arith;
-      few_hashes = omega arith;
-    };
-    whole = tt;
+files = (refl, refl)
+
+-- the file of one word, with its seal and without, and that of one line
+of-worked : IsFileOf Whole worked crabs
+of-worked = record {
+  parts = is_file-worked;
+  fits = record {
+    words = All-from_recursion (λ word. word < 2 ^ 64) crabs.words (omega arith, tt);
+    low = omega arith;
+    high = omega arith;
   };
-  fits = fits-worked;
 }
 
-pub is_file-unsealed : IsFileOf Whole unsealed crabs
+of-unsealed : IsFileOf Whole unsealed crabs
+of-unsealed = record { parts = is_file-unsealed; fits = of-worked.fits }
+
+of-lines : IsFileOf Lines line_file line_crabs
+of-lines = record {
+  parts = is_file-lines;
+  fits = record {
+    words = All-from_recursion (λ word. word < 2 ^ 64) line_words
+        (lit< tt, (lit< tt, (lit< tt, (lit< tt, (lit< tt, (lit< tt, (lit< tt, (lit< tt, tt))))))));
+    low = omega arith;
+    high = omega arith;
+  };
+}
+
+-- a file that goes on isn't that of the filter
+of-longer : IsFileOf Whole (worked ++ 0 ∷ []) crabs → ⊥
+of-longer is =
+    differs _ length (λ same. omega (arith, same)) (λ same. omega (arith, same)) is.parts
+
+-- a file is that of its filter, in the filter's own layout; and no filter has one whose key has 65
+-- bits
+is_file : IsFileOf Whole worked crabs
+    × IsFileOf Lines line_file line_crabs
+    × (IsFileOf Whole (worked ++ 0 ∷ []) crabs → ⊥)
+    × (IsFileOf Whole line_file line_crabs → ⊥)
+    × ((bytes : List ℕ) → IsFileOf Whole bytes (filter (0 ∷ []) 3 0x1_0000_0000_0000_0000 0) → ⊥)
 unfolding bytes_of
-is_file-unsealed = record {
-  parts = record {
-    seal = 0;
-    narrow = omega arith;
-    sealed = inl refl;
-    is = refl;
-    count = refl;
-    shape = is_file-worked.parts.shape;
-    whole = tt;
-  };
-  fits = fits-worked;
-}
+is_file = (
+  of-worked,
+  of-lines,
+  of-longer,
+  λ is. (let wrong : 1 ≡ 0 = ap (λ l. get_or l 48 0) is.parts.is in omega (arith, wrong)),
+  λ bytes is. omega (arith, is.fits.low),
+)
 
--- bytes that differ in this measure from both files of a filter are none of its files
-differs : (bytes : List ℕ) (f : DefaultFilter) (measure : List ℕ → ℕ)
-    → (measure bytes ≡ measure (file_with (head_of f) 0 f.words) → ⊥)
-    → (measure bytes ≡ measure (file_of Whole f) → ⊥) → IsFileOf Whole bytes f → ⊥
-differs bytes f measure plain sealed is =
-    let file : ℕ → List ℕ = λ seal. file_with (head_of f) seal f.words in
-    elim is.parts.sealed [
-      | inl none ↦ plain (ap measure (is.parts.is ∙ ap file none))
-      | inr right ↦ sealed (ap measure (is.parts.is ∙ ap file right))
-    ]
+-- a reader gave the file and is at its end: no byte is left, and it gave none more
+reads : ReadsFile Whole (Some worked) (Some []) crabs
+    × (ReadsFile Whole (Some (worked ++ 0 ∷ [])) (Some (0 ∷ [])) crabs → ⊥)
+    × (ReadsFile Whole (Some (worked ++ 0 ∷ [])) (Some []) crabs → ⊥)
+reads = (
+  record { bytes = worked; taken = refl; is_file = of-worked; end = refl },
+  λ is. cc (is.end),
+  λ is. of-longer
+      (subst (λ l. IsFileOf Whole l crabs) (sym (is.taken ∙ append-nil is.bytes)) is.is_file),
+)
 
--- bytes whose number at one place is another than in both files of the worked filter
-other : (bytes : List ℕ) (place : ℕ)
-    → (get_or bytes place 0 ≡ get_or unsealed place 0 → ⊥)
-    → (get_or bytes place 0 ≡ get_or worked place 0 → ⊥) → IsFileOf Whole bytes crabs → ⊥
-unfolding bytes_of sip start round absorb answer whole_words rest
-other bytes place plain sealed =
-    differs bytes crabs (λ l. get_or l place 0) plain sealed
+-- a writer that had a byte took the file behind it: the byte isn't gone, and no byte more is there
+writes : WritesFile Whole (Some (7 ∷ [])) (Some (7 ∷ worked)) crabs
+    × (WritesFile Whole (Some (7 ∷ [])) (Some worked) crabs → ⊥)
+    × (WritesFile Whole (Some []) (Some (worked ++ 0 ∷ [])) crabs → ⊥)
+writes = (
+  record { bytes = worked; added = refl; is_file = of-worked },
+  λ is. (let wrong : get_or worked 0 0 ≡ 7 = ap (λ l. get_or l 0 0) is.added in
+      omega (arith, wrong)),
+  λ is. of-longer (subst (λ l. IsFileOf Whole l crabs) (sym is.added) is.is_file),
+)
 
--- bytes of another number than both files of the worked filter
-other-size : (bytes : List ℕ) → (length bytes ≡ 72 → ⊥) → IsFileOf Whole bytes crabs → ⊥
-unfolding bytes_of sip start round absorb answer whole_words rest
-other-size bytes size = differs bytes crabs length size size
+-- each filter of the file of one word answers as its filter does
+file_law-whole : FileLaw → (f : DefaultFilter) → IsFileOf Whole worked f → AnswerAlike crabs f
+file_law-whole law f is = law Whole worked crabs f of-worked is
 
--- the file isn't that of the filter where its seal is another
-is_file-other_seal : IsFileOf Whole
-    (head_with (169 ∷ 27 ∷ 10 ∷ 212 ∷ 238 ∷ 141 ∷ 157 ∷ 93 ∷ []) (low 0) (low 0) ++ its_word) crabs
-    → ⊥
-is_file-other_seal = other _ 40 (λ same. omega (arith, same)) (λ same. omega (arith, same))
+-- each filter of the file of one line has its words and hashes, and contains the hash of `crab`, and
+-- not the one after
+file_law-lines : FileLaw → (f : DefaultFilter) → IsFileOf Lines line_file f
+    → (f.words ≡ line_words) × (f.hashes ≡ 3)
+    × (contains_in_line f 0x28b5_d1a8_6888_d657 ≡ true)
+    × (contains_in_line f 0x28b5_d1a8_6888_d658 ≡ false)
+unfolding content are_in chain
+file_law-lines law f is =
+    let same = law Lines line_file line_crabs f of-lines is in
+    let here : contains_in_line line_crabs 0x28b5_d1a8_6888_d657 ≡ true = refl in
+    let none : contains_in_line line_crabs 0x28b5_d1a8_6888_d658 ≡ false = refl in (
+      same.words,
+      same.hashes,
+      same.found 0x28b5_d1a8_6888_d657 ∙ here,
+      same.found 0x28b5_d1a8_6888_d658 ∙ none,
+    )
 
--- nor where its word has the other order of bytes
-is_file-turned_word : IsFileOf Whole
-    (head_with its_seal (low 0) (low 0) ++ 16 ∷ 128 ∷ 0 ∷ 128 ∷ 64 ∷ 0 ∷ 20 ∷ 0 ∷ []) crabs → ⊥
-is_file-turned_word = other _ 64 (λ same. omega (arith, same)) (λ same. omega (arith, same))
+-- filters of one file under its key give each item one source hash
+items_law : (hash_of : CloneBuildHasher RandomDefaultHasher → ℕ → ℕ) → SameFileItemsLaw hash_of
+    → (f g : DefaultFilter) → IsFileOf Lines line_file f → IsFileOf Lines line_file g
+    → HasOwnKey f → HasOwnKey g → hash_of g.hasher 8 ≡ hash_of f.hasher 8
+items_law hash_of law f g is other own key = law Lines line_file f g is other own key 8
 
--- nor where the key's words are swapped, which without a seal is a good file of another filter
-pub is_file-swapped_key : IsFileOf Whole
-    (first ++ low 3 ++ low 1 ++ key_last ++ key_first ++ low 0 ++ low 0 ++ low 0 ++ its_word)
-    crabs → ⊥
-is_file-swapped_key = other _ 24 (λ same. omega (arith, same)) (λ same. omega (arith, same))
+-- neither a file with its seal nor one without is refused
+readable_law : ReadableLaw
+    → (refusal_in Lines line_file ≡ None) × (refusal_in Whole unsealed ≡ None)
+readable_law law =
+    (law Lines line_file line_crabs of-lines, law Whole unsealed crabs of-unsealed)
 
--- nor where it has a hash more
-is_file-more_hashes : IsFileOf Whole
-    (first ++ low 4 ++ low 1 ++ key_first ++ key_last ++ its_seal ++ low 0 ++ low 0 ++ its_word)
-    crabs → ⊥
-is_file-more_hashes = other _ 8 (λ same. omega (arith, same)) (λ same. omega (arith, same))
-
--- nor where a reserved byte isn't zero
-is_file-reserved : IsFileOf Whole (head_with its_seal (low 0) (low 1) ++ its_word) crabs → ⊥
-is_file-reserved = other _ 56 (λ same. omega (arith, same)) (λ same. omega (arith, same))
-
--- nor where it has a byte more
-pub is_file-longer : IsFileOf Whole (worked ++ 0 ∷ []) crabs → ⊥
-is_file-longer = other-size _ (λ same. omega (arith, same))
-
--- nor where it has a byte less
-is_file-shorter : IsFileOf Whole
-    (head_with its_seal (low 0) (low 0) ++ 0 ∷ 20 ∷ 0 ∷ 64 ∷ 128 ∷ 0 ∷ 128 ∷ []) crabs → ⊥
-is_file-shorter = other-size _ (λ same. omega (arith, same))
-
--- filters of no words, of no hashes and of too many have no file
-is_file-no_words : (bytes : List ℕ) → IsFileOf Whole bytes (filter [] 3 0 0) → ⊥
-is_file-no_words bytes is = omega (arith, is.parts.shape.some_words)
-
-is_file-no_hashes : (bytes : List ℕ) → IsFileOf Whole bytes (filter (0 ∷ []) 0 0 0) → ⊥
-is_file-no_hashes bytes is = omega (arith, is.parts.shape.some_hashes)
-
-is_file-most_hashes : (bytes : List ℕ)
-    → IsFileOf Whole bytes (filter (0 ∷ []) 0x1_0000_0000 0 0) → ⊥
-is_file-most_hashes bytes is = omega (arith, is.parts.shape.few_hashes)
-
-is_file-most_words : (bytes : List ℕ) (f : DefaultFilter)
-    → length f.words ≡ 0x0400_0000_0000_0000 → IsFileOf Whole bytes f → ⊥
-is_file-most_words bytes f many is = omega (arith, many, is.parts.shape.few_words)
-
--- nor has a filter of a word of 65 bits
-is_file-fits : (bytes : List ℕ)
-    → IsFileOf Whole bytes (filter (0 ∷ 0x1_0000_0000_0000_0000 ∷ []) 3 0 0)
-    → ⊥
-is_file-fits bytes is = fits-word is.fits
-
--- the hashers of the worked filter have its key and took in nothing
-pub own_key-worked : HasOwnKey crabs
-unfolding whole_words rest
-own_key-worked = record { low = refl; high = refl; words = refl; held = refl; count = refl }
-
--- hashers that took in a byte aren't new
-own_key-later : HasOwnKey (record {
-  words = 0 ∷ [];
-  hashes = 1;
-  hasher = record {
-    hasher = record { low = 0; high = 0; words = start 0 0; held = 7 ∷ []; count = 1 };
-  };
-}) → ⊥
-own_key-later is = omega (arith, is.count)
+-- where the other layout is read a file is refused by name
+refused_laws : BlockedRefusedLaw → NotBlockedRefusedLaw
+    → (refusal_in Whole line_file ≡ Some Blocked) × (refusal_in Lines worked ≡ Some NotBlocked)
+refused_laws blocked not_blocked =
+    (blocked line_file line_crabs of-lines, not_blocked worked crabs of-worked)
