@@ -85,7 +85,7 @@ $(ARCHIVE): $(SOURCES) $(C_SOURCES)
 
 # It has the library in it, and exports nothing but its beginning.
 $(EXTENSION): sqlite/fastbloom_sqlite.c $(ARCHIVE)
-	$(CC) -std=c99 -O2 -Wall -Wextra $(CFLAGS) -fPIC -fvisibility=hidden -shared -Iinclude \
+	$(CC) -std=c99 -O2 -Wall -Wextra $(CFLAGS) -fPIC -fvisibility=hidden -shared -Iout/c/include \
 	  $(LDFLAGS) $^ -Wl,--exclude-libs,ALL,--gc-sections,-z,defs,-z,relro,-z,now -o $@
 
 # So that the package can be used where it lies.
@@ -135,7 +135,7 @@ install: names all
 	for name in $(PAGES); do \
 	  install -m 644 man/$$name.1 '$(DESTDIR)$(mandir)'/man1/fastbloom-$$name.1; \
 	  $(call short,$(mandir)/man1,$$name.1)done
-	install -m 644 $(HEADERS:%=include/%) '$(DESTDIR)$(includedir)'
+	install -m 644 $(HEADERS:%=out/c/include/%) '$(DESTDIR)$(includedir)'
 	install -m 644 $(ARCHIVE) '$(DESTDIR)$(libdir)'
 	if [ -e out/c/$(SHARED) ]; then \
 	  install out/c/$(SHARED).$(VERSION) '$(DESTDIR)$(libdir)'; \

@@ -1,18 +1,14 @@
 """Blocked filters: what a model says of drawn sessions, and what Python adds to the calls of C."""
 
 import array
-import copy
 import ctypes
 import math
-import os
 import pickle
 import sys
-import tempfile
 import threading
 import time
 import unittest
 from fractions import Fraction
-from pathlib import Path
 from unittest import mock
 
 import fastbloom
@@ -25,6 +21,7 @@ from fastbloom import (
     SharedBlockedFilter,
     SharedFilter,
 )
+from kinds import COUNTING_KEY
 
 WORD = 2**64
 
@@ -44,62 +41,7 @@ WANTED = {
 }
 
 
-class Slotted(BlockedFilter):
-    """A subclass with attributes in slots, of which one is private and one isn't set."""
-
-    __slots__ = ("name", "__kept", "unset")
-
-    def __init__(self, name):
-        super().__init__(1000, "1/1000")
-        self.name, self.__kept = [name], name
-
-    def kept(self):
-        return self.__kept
-
-
-class Both(Slotted):
-    """A subclass of it that has all attributes."""
-
-
-COUNTING_KEY = bytes(range(16))
 SIZE = "for 1000 items, 15872 bits, 9 hashes"  # in the text of a small filter
-# One line, three hashes, and the key bytes 0 to 15, of `crab` and `lobster`: the file that
-# dev/blocked-model --file makes, and docs/FILE.md explains.
-WORKED = bytes.fromhex(
-    "66626c6f6f6d0031 0300000000000000 0800000000000000 0001020304050607 08090a0b0c0d0e0f"
-    "cb93f2d0c688fbf4 0100000000000000 0000000000000000 0000000000000000 0000000000040000"
-    "0000000000000000 0000000000000001 8000021000000000 0000004000000000 0000000000000000"
-    "0000000000000000"
-)
-
-
-def changed(file, place, byte):
-    return file[:place] + bytes([byte]) + file[place + 1 :]
-
-
-def refused_files(file):
-    """Files that differ from a good one, by the number of the refusal that a reader tells."""
-    part = changed(file, 16, 7)
-    return {
-        2: [changed(file, 16, 0)],
-        3: [changed(file, 23, 4)],
-        7: [changed(file, 8, 0), changed(file, 12, 1)],
-        9: [b"", file[:7], changed(file, 0, 70)],
-        10: [changed(file, 7, 50)],
-        11: [
-            file[:8],
-            file[:63],
-            file[:64],
-            file[:-1],
-            changed(file, 48, 0)[:-1],
-            part[:119],
-        ],
-        12: [file + b"\0", part, changed(file, 48, 0) + b"\0"],
-        13: [changed(file, 48, 2), changed(file, 49, 1), changed(file, 63, 128)],
-        14: [changed(file, place, 1) for place in (8, 24, 39, 40, 64, len(file) - 1)],
-        16: [part[:120]],
-        18: [changed(file, 48, 0), changed(part, 48, 0)[:120]],
-    }
 
 
 def drawn(session, index):
@@ -186,59 +128,6 @@ class Blocked(unittest.TestCase):
         self.assertIsInstance(seen, AnyFilter)
         seen.clear()
         self.assertEqual((seen.count_ones(), "crab" in seen), (0, False))
-
-    def test_many_are_as_one_by_one(self):
-        one, many = BlockedFilter(10**6, "1/100"), BlockedFilter(10**6, "1/100")
-        items = [f"item{number}" for number in range(5000)]
-        for item in items:
-            one.add(item)
-        many.update(items)
-        self.assertEqual(one, many)
-        self.assertEqual(many.contains_many(items), [True] * len(items))
-
-    def test_two_filters(self):
-        one, other = small("crab", "lobster"), small("lobster", "whale")
-        self.assertEqual((one | other).contains_many(["crab", "lobster", "whale"]), [True] * 3)
-        self.assertEqual(
-            (one & other).contains_many(["crab", "lobster", "whale"]),
-            [False, True, False],
-        )
-        united = one.copy()
-        united |= other
-        self.assertEqual(united, one | other)
-        united &= one
-        self.assertEqual(united, one)
-        self.assertNotEqual(one, other)
-        one |= one
-        self.assertIn("crab", one)
-
-    def test_copies(self):
-        seen = BlockedFilter(1000, "1/1000", bytes(range(16)))
-        seen.update(["crab", "eel"])
-        ways = [BlockedFilter.copy, copy.copy, copy.deepcopy]
-        ways += [lambda it, n=number: pickle.loads(pickle.dumps(it, n)) for number in range(2, 6)]
-        for way in ways:
-            other = way(seen)
-            self.assertEqual(other, seen)
-            self.assertEqual(other.key, bytes(range(16)))
-            other.add("whale")
-            self.assertNotIn("whale", seen)
-        self.assertEqual(list(seen.view()), seen.words())
-        self.assertRaises(TypeError, seen.view().__setitem__, 0, 1)
-
-    def test_copies_keep_what_a_subclass_adds(self):
-        for cls in (Slotted, Both):
-            seen = cls("fish")
-            if cls is Both:
-                seen.more = "shell"
-            copies = [pickle.loads(pickle.dumps(seen, number)) for number in range(2, 6)]
-            for other in [seen.copy(), copy.copy(seen), copy.deepcopy(seen), *copies]:
-                self.assertIs(type(other), cls)
-                self.assertEqual((other, other.name, other.kept()), (seen, ["fish"], "fish"))
-                self.assertFalse(hasattr(other, "unset"))
-                self.assertEqual(getattr(other, "more", None), "shell" if cls is Both else None)
-            self.assertIs(copy.copy(seen).name, seen.name)
-            self.assertIsNot(copy.deepcopy(seen).name, seen.name)
 
     def test_pickles_hand_the_words_out(self):
         seen = BlockedFilter(10_000, "1/1000", COUNTING_KEY)
@@ -458,114 +347,6 @@ class Rates(unittest.TestCase):
             few.union,
         ):
             self.assertRaises(ValueError, call, BlockedFilter(10, "1/2"))
-
-
-class Files(unittest.TestCase):
-    def setUp(self):
-        self.folder = tempfile.TemporaryDirectory()
-        self.addCleanup(self.folder.cleanup)
-        self.path = Path(self.folder.name) / "seen.bloom"
-
-    def readers(self, file):
-        """The calls that read these bytes."""
-        self.path.write_bytes(file)
-        yield lambda **options: BlockedFilter.from_bytes(file, **options)
-        yield lambda **options: BlockedFilter.load(self.path, **options)
-        yield lambda **options: BlockedFilter.load(self.path, mapped=True, **options)
-
-    def test_a_worked_file_is_read_and_written(self):
-        for read in self.readers(WORKED):
-            seen = read()
-            self.assertEqual((seen.num_lines, seen.num_hashes, seen.key), (1, 3, COUNTING_KEY))
-            memory = ctypes.c_char.from_buffer(seen._view)
-            self.assertEqual(ctypes.addressof(memory) % 64, 0)
-            self.assertEqual(seen.contains_many(["crab", "lobster", "whale"]), [True, True, False])
-            self.assertEqual(seen.to_bytes(), WORKED)
-            seen.clear()
-            self.assertEqual([seen.add("crab"), seen.add("lobster")], [False, False])
-            self.assertEqual(seen.to_bytes(), WORKED)
-            # (what is added to a mapped filter stays its own)
-            self.assertEqual(self.path.read_bytes(), WORKED)
-            other = Path(self.folder.name) / "other.bloom"
-            seen.save(str(other))
-            self.assertEqual(other.read_bytes(), WORKED)
-            self.assertEqual(read(), seen)
-
-    def test_a_file_without_a_seal(self):
-        seen = BlockedFilter.from_bytes(WORKED)
-        plain = seen.to_bytes(sealed=False)
-        self.assertEqual(plain, WORKED[:40] + bytes(8) + WORKED[48:])
-        for read in self.readers(plain):
-            self.assertEqual(read(), seen)
-        seen.save(self.path, sealed=False)
-        self.assertEqual(self.path.read_bytes(), plain)
-        self.assertEqual(os.listdir(self.folder.name), [self.path.name])
-
-    def test_files_of_many_lines(self):
-        seen = small("crab", "eel")
-        for read in self.readers(seen.to_bytes()):
-            self.assertEqual(read(), seen)
-
-    def test_refused_files(self):
-        for code, files in refused_files(WORKED).items():
-            for file in files:
-                for read in self.readers(file):
-                    with self.assertRaises(Refusal) as told:
-                        read()
-                    self.assertEqual(told.exception.code, code, file.hex())
-
-    def test_each_kind_refuses_the_files_of_the_other(self):
-        Filter(1000, "1/1000").save(self.path, sealed=False)
-        calls = [
-            lambda: BlockedFilter.from_bytes(self.path.read_bytes()),
-            lambda: BlockedFilter.load(self.path),
-            lambda: BlockedFilter.load(self.path, mapped=True),
-            lambda: SharedBlockedFilter.map(self.path),
-        ]
-        for call in calls:
-            with self.assertRaisesRegex(Refusal, "^the file's filter isn't blocked$"):
-                call()
-        small("crab").save(self.path, sealed=False)
-        calls = [
-            lambda: Filter.from_bytes(self.path.read_bytes()),
-            lambda: Filter.load(self.path),
-            lambda: Filter.load(self.path, mapped=True),
-            lambda: SharedFilter.map(self.path),
-        ]
-        for call in calls:
-            with self.assertRaisesRegex(Refusal, "^the file has a blocked filter$"):
-                call()
-
-    def test_a_file_with_many_hashes_is_refused(self):
-        many = changed(WORKED[:40] + bytes(8) + WORKED[48:], 8, 65)
-        for read in self.readers(many):
-            with self.assertRaisesRegex(ValueError, "65 hashes, and max_hashes is 64"):
-                read()
-            self.assertEqual(read(max_hashes=65).num_hashes, 65)
-            self.assertEqual(read(max_hashes=None).num_hashes, 65)
-
-    def test_a_file_that_becomes_shorter_is_refused(self):
-        self.path.write_bytes(WORKED)
-        size = os.stat_result([0o100644] + [0] * 5 + [len(WORKED)] + [0] * 3)
-        self.path.write_bytes(WORKED[:-1])
-        with mock.patch.object(os, "fstat", lambda _: size):
-            with self.assertRaises(Refusal) as told:
-                BlockedFilter.load(self.path)
-        self.assertEqual(told.exception.code, 11)
-
-    def test_a_file_that_is_shared(self):
-        seen = small("crab")
-        seen.save(self.path)
-        self.assertRaisesRegex(ValueError, "seal", SharedBlockedFilter.map, self.path)
-        seen.save(self.path, sealed=False)
-        one, other = SharedBlockedFilter.map(self.path), SharedBlockedFilter.map(self.path)
-        self.assertTrue("crab" in one and not one.add("eel") and other.add("eel"))
-        self.assertEqual((other.num_words, other.num_hashes, other.key), (248, 9, bytes(16)))
-        self.assertEqual(other.load(), small("crab", "eel"))
-        one.release()
-        del other
-        self.assertEqual(BlockedFilter.load(self.path), small("crab", "eel"))
-        self.assertRaises(ValueError, SharedBlockedFilter.map, self.path, max_hashes=8)
 
 
 class Shared(unittest.TestCase):

@@ -1,6 +1,9 @@
 """Files that are written, read and refused. The form is that of docs/FILE.md."""
 
+import array
+import ctypes
 import errno
+import functools
 import os
 import signal
 import socket
@@ -15,26 +18,15 @@ from pathlib import Path
 from unittest import mock
 
 import storm
-from fastbloom import BlockedFilter, Filter, Refusal, SharedBlockedFilter, SharedFilter
+from fastbloom import Refusal
+from kinds import COUNTING_KEY, changed, for_each_kind
 from peak import peak_of
 
-COUNTING_KEY = bytes(range(16))
-BLOCKED = (BlockedFilter, SharedBlockedFilter)
 # Entries of access control lists, as the file acl_ea.h of Linux numbers them: a tag, rights, and a
 # number for named ones alone.
 NOBODY = 2**32 - 1
 USER, GROUP, OTHER = 2, 4, 32
 OWNER, MASK = (1, 6, NOBODY), (16, 4, NOBODY)
-# One word, three hashes, and the key bytes 0 to 15, of `crab` and `lobster`: the file of a model,
-# which docs/FILE.md explains.
-WORKED = bytes.fromhex(
-    "66626c6f6f6d0031 0300000000000000 0100000000000000 0001020304050607 08090a0b0c0d0e0f"
-    "a81b0ad4ee8d9d5d 0000000000000000 0000000000000000 0014004080008010"
-)
-
-
-def changed(file, place, byte):
-    return file[:place] + bytes([byte]) + file[place + 1 :]
 
 
 def refused_files(file):
@@ -56,12 +48,12 @@ def refused_files(file):
         ],
         12: [file + b"\0", changed(file, 63, 1) + b"\0"],
         13: [changed(file, 48, 2), changed(file, 63, 128)],
-        17: [changed(file, 48, 1)],
         14: [changed(file, place, 1) for place in (8, 24, 39, 40, 64, len(file) - 1)],
     }
 
 
-class Files(unittest.TestCase):
+@for_each_kind
+class Files:
     def setUp(self):
         self.folder = tempfile.TemporaryDirectory()
         self.addCleanup(self.folder.cleanup)
@@ -70,43 +62,72 @@ class Files(unittest.TestCase):
     def readers(self, file):
         """The calls that read these bytes."""
         self.path.write_bytes(file)
-        yield lambda **options: Filter.from_bytes(file, **options)
-        yield lambda **options: Filter.load(self.path, **options)
-        yield lambda **options: Filter.load(self.path, mapped=True, **options)
+        yield lambda **options: self.filters.from_bytes(file, **options)
+        yield lambda **options: self.filters.load(self.path, **options)
+        yield lambda **options: self.filters.load(self.path, mapped=True, **options)
 
     def test_a_worked_file_is_read_and_written(self):
-        for read in self.readers(WORKED):
+        for read in self.readers(self.worked):
             seen = read()
-            self.assertEqual((seen.num_words, seen.num_hashes, seen.key), (1, 3, COUNTING_KEY))
-            self.assertEqual(seen.words(), [0x1080008040001400])
-            self.assertEqual(seen.contains_many(["crab", "lobster"]), [True, True])
-            self.assertEqual(seen.to_bytes(), WORKED)
+            self.assertEqual((seen.num_hashes, seen.key), (3, COUNTING_KEY))
+            self.assertEqual(getattr(seen, "num_lines", 1), 1)
+            self.assertEqual(seen.words(), list(array.array("Q", self.worked[64:])))
+            memory = ctypes.c_char.from_buffer(seen._view)
+            self.assertEqual(ctypes.addressof(memory) % self.aligned, 0)
+            self.assertEqual(seen.contains_many(["crab", "lobster", "whale"]), [True, True, False])
+            self.assertEqual(seen.to_bytes(), self.worked)
             seen.clear()
             self.assertEqual([seen.add("crab"), seen.add("lobster")], [False, False])
-            seen.save(str(self.path))
-            self.assertEqual(self.path.read_bytes(), WORKED)
+            self.assertEqual(seen.to_bytes(), self.worked)
+            # (what is added to a mapped filter stays its own)
+            self.assertEqual(self.path.read_bytes(), self.worked)
+            other = Path(self.folder.name) / "other.bloom"
+            seen.save(str(other))
+            self.assertEqual(other.read_bytes(), self.worked)
+            self.assertEqual(read(), seen)
 
     def test_a_file_without_a_seal(self):
-        seen = Filter.from_bytes(WORKED)
+        seen = self.filters.from_bytes(self.worked)
         plain = seen.to_bytes(sealed=False)
-        self.assertEqual(plain, WORKED[:40] + bytes(8) + WORKED[48:])
+        self.assertEqual(plain, self.worked[:40] + bytes(8) + self.worked[48:])
         for read in self.readers(plain):
             self.assertEqual(read(), seen)
         seen.save(self.path, sealed=False)
         self.assertEqual(self.path.read_bytes(), plain)
+        self.assertEqual(os.listdir(self.folder.name), [self.path.name])
+
+    def test_files_of_many_words(self):
+        seen = self.small("crab", "eel")
+        for read in self.readers(seen.to_bytes()):
+            self.assertEqual(read(), seen)
 
     def test_refused_files(self):
-        for code, files in refused_files(WORKED).items():
+        rows = [*refused_files(self.worked).items(), *self.refused_files().items()]
+        for code, files in rows:
             for file in files:
                 for read in self.readers(file):
                     with self.assertRaises(Refusal) as told:
                         read()
-                    self.assertEqual(told.exception.code, code)
+                    self.assertEqual(told.exception.code, code, file.hex())
                     self.assertIsInstance(told.exception, ValueError)
 
+    def test_the_files_of_the_other_kind_are_refused(self):
+        self.other[0](1000, "1/1000").save(self.path, sealed=False)
+        for read in (
+            *self.readers(self.path.read_bytes()),
+            lambda: self.shared.map(self.path),
+        ):
+            with self.assertRaises(Refusal) as told:
+                read()
+            self.assertEqual((told.exception.code, str(told.exception)), self.refusal_of_other)
+
     def test_a_file_with_many_hashes_is_refused(self):
-        few = changed(Filter.from_bytes(WORKED).to_bytes(sealed=False), 8, 64)
+        few = changed(self.filters.from_bytes(self.worked).to_bytes(sealed=False), 8, 64)
         many = few[:8] + b"\xff\xff\xff\xff" + few[12:]
+        for read in self.readers(changed(few, 8, 65)):
+            with self.assertRaisesRegex(ValueError, "65 hashes, and max_hashes is 64"):
+                read()
+            self.assertEqual(read(max_hashes=65).num_hashes, 65)
         for read in self.readers(few):
             self.assertEqual(read().num_hashes, 64)
             with self.assertRaises(ValueError) as told:
@@ -119,43 +140,64 @@ class Files(unittest.TestCase):
 
     def test_a_file_with_many_words_is_refused(self):
         """The head is enough for it: a sparse file of a terabyte takes no memory."""
-        two = bytearray(Filter.from_bytes(WORKED).to_bytes(sealed=False)) + bytes(8)
-        two[16] = 2
+        one = self.filters.from_bytes(self.worked)
+        two = bytearray(one.to_bytes(sealed=False) + self.worked[64:])
+        two[16] *= 2
         for read in self.readers(bytes(two)):
-            self.assertEqual(read(max_words=2).num_words, 2)
+            self.assertEqual(read(max_words=two[16]).num_words, 2 * one.num_words)
             with self.assertRaises(ValueError) as told:
-                read(max_words=1)
-            self.assertEqual(str(told.exception), "the file has 2 words, and max_words is 1")
-        lines = BlockedFilter(10, "1/2").to_bytes(sealed=False)
-        for head, filters in ((two, (Filter, SharedFilter)), (lines, BLOCKED)):
-            head = bytearray(head[:64])
-            head[16:24] = (2**37).to_bytes(8, "little")
-            self.path.write_bytes(head)
-            os.truncate(self.path, 64 + 2**40)
-            calls = [filters[0].load, filters[1].map]
-            calls.append(lambda path, **options: filters[0].load(path, mapped=True, **options))
-            for call in calls:
-                with self.assertRaisesRegex(ValueError, f"{2**37} words, and max_words is 1000"):
-                    call(self.path, max_words=1000)
-            self.path.unlink()
+                read(max_words=two[16] - 1)
+            wanted = f"the file has {two[16]} words, and max_words is {two[16] - 1}"
+            self.assertEqual(str(told.exception), wanted)
+        two[16:24] = (2**37).to_bytes(8, "little")
+        self.path.write_bytes(two[:64])
+        os.truncate(self.path, 64 + 2**40)
+        mapped = functools.partial(self.filters.load, mapped=True)
+        for call in (self.filters.load, mapped, self.shared.map):
+            with self.assertRaisesRegex(ValueError, f"{2**37} words, and max_words is 1000"):
+                call(self.path, max_words=1000)
+
+    def test_a_file_that_becomes_shorter_is_refused(self):
+        self.path.write_bytes(self.worked)
+        size = os.stat_result([0o100644] + [0] * 5 + [len(self.worked)] + [0] * 3)
+        self.path.write_bytes(self.worked[:-1])
+        with mock.patch.object(os, "fstat", lambda _: size):
+            with self.assertRaises(Refusal) as told:
+                self.filters.load(self.path)
+        self.assertEqual(told.exception.code, 11)
+
+    def test_a_file_that_is_shared(self):
+        seen = self.small("crab")
+        seen.save(self.path)
+        self.assertRaisesRegex(ValueError, "seal", self.shared.map, self.path)
+        seen.save(self.path, sealed=False)
+        one, other = self.shared.map(self.path), self.shared.map(self.path)
+        self.assertTrue("crab" in one and not one.add("eel") and other.add("eel"))
+        self.assertEqual((other.num_words, other.num_hashes), (seen.num_words, seen.num_hashes))
+        self.assertEqual((other.key, other.load()), (bytes(16), self.small("crab", "eel")))
+        one.release()
+        del other
+        self.assertEqual(self.filters.load(self.path), self.small("crab", "eel"))
+        few = seen.num_hashes - 1
+        self.assertRaises(ValueError, self.shared.map, self.path, max_hashes=few)
 
     def test_what_is_added_to_a_loaded_filter_stays_its_own(self):
         for mapped in (False, True):
-            self.path.write_bytes(WORKED)
-            seen = Filter.load(self.path, mapped=mapped)
+            self.path.write_bytes(self.worked)
+            seen = self.filters.load(self.path, mapped=mapped)
             seen.add("whale")
-            self.assertEqual(self.path.read_bytes(), WORKED)
-            self.assertNotEqual(seen, Filter.load(self.path))
+            self.assertEqual(self.path.read_bytes(), self.worked)
+            self.assertNotEqual(seen, self.filters.load(self.path))
             self.path.unlink()
             self.assertIn("whale", seen)
 
     def test_a_loaded_file_may_be_written_and_cut(self):
         """A process that touches a mapping of a file that was truncated ends by a signal."""
-        self.path.write_bytes(WORKED)
+        self.path.write_bytes(self.worked)
         code = (
-            "import sys; from fastbloom import Filter\n"
-            "seen = Filter.load(sys.argv[1])\n"
-            "with open(sys.argv[1], 'r+b') as file: file.write(bytes(72))\n"
+            f"import sys; from fastbloom import {self.filters.__name__}\n"
+            f"seen = {self.filters.__name__}.load(sys.argv[1])\n"
+            f"with open(sys.argv[1], 'r+b') as file: file.write(bytes({len(self.worked)}))\n"
             "print(seen.contains_many(['crab', 'lobster']))\n"
             "with open(sys.argv[1], 'wb'): pass\n"
             "print('crab' in seen, seen.count_ones(), seen.to_bytes().hex())\n"
@@ -166,42 +208,37 @@ class Files(unittest.TestCase):
             check=False,
             stdout=subprocess.PIPE,
         )
-        wanted = f"[True, True]\nTrue 6 {WORKED.hex()}\n"
+        ones = int.from_bytes(self.worked[64:], "little").bit_count()
+        wanted = f"[True, True]\nTrue {ones} {self.worked.hex()}\n"
         self.assertEqual((run.returncode, run.stdout.decode()), (0, wanted))
 
     def test_a_mapped_file_is_a_mapping_of_it(self):
-        self.path.write_bytes(WORKED)
+        self.path.write_bytes(self.worked)
         for mapped in (False, True):
-            seen = Filter.load(self.path, mapped=mapped)
+            seen = self.filters.load(self.path, mapped=mapped)
             maps = Path("/proc/self/maps").read_text()
             self.assertEqual(os.path.realpath(self.path) in maps, mapped)
             self.assertIn("crab", seen)
             del seen
 
     def test_a_loaded_filter_keeps_no_descriptor(self):
-        self.path.write_bytes(WORKED)
-        plain, lines = (
-            Path(self.folder.name) / "plain",
-            Path(self.folder.name) / "lines",
-        )
-        Filter.from_bytes(WORKED).save(plain, sealed=False)
-        blocked = BlockedFilter(10, "1/1000")
-        blocked.add("crab")
-        blocked.save(lines, sealed=False)
+        self.path.write_bytes(self.worked)
+        plain = Path(self.folder.name) / "plain"
+        self.filters.from_bytes(self.worked).save(plain, sealed=False)
         before = len(os.listdir("/proc/self/fd"))
-        loaded = [Filter.load(self.path) for _ in range(10)]
+        loaded = [self.filters.load(self.path) for _ in range(10)]
         if sys.version_info >= (3, 13):
-            loaded += [Filter.load(self.path, mapped=True) for _ in range(10)]
-            loaded += [SharedFilter.map(plain), SharedBlockedFilter.map(lines)]
+            loaded += [self.filters.load(self.path, mapped=True) for _ in range(10)]
+            loaded.append(self.shared.map(plain))
         self.assertEqual(len(os.listdir("/proc/self/fd")), before)
         self.assertTrue(all("crab" in seen for seen in loaded))
 
     def test_a_path_may_be_bytes(self):
         path = os.fsencode(self.path)
-        seen = Filter.from_bytes(WORKED)
+        seen = self.filters.from_bytes(self.worked)
         seen.save(path)
         self.assertEqual(os.listdir(self.folder.name), [self.path.name])
-        self.assertEqual(Filter.load(path), seen)
+        self.assertEqual(self.filters.load(path), seen)
         here = os.getcwd()
         self.addCleanup(os.chdir, here)
         os.chdir(self.folder.name)
@@ -209,7 +246,7 @@ class Files(unittest.TestCase):
         self.assertEqual(sorted(os.listdir()), ["other.bloom", self.path.name])
 
     def test_a_file_keeps_its_rights(self):
-        seen = Filter.from_bytes(WORKED)
+        seen = self.filters.from_bytes(self.worked)
         self.addCleanup(os.umask, os.umask(0o027))
         seen.save(self.path)
         self.assertEqual(stat.S_IMODE(self.path.stat().st_mode), 0o640)
@@ -249,7 +286,7 @@ class Files(unittest.TestCase):
 
     def test_a_file_keeps_its_access_control_list(self):
         """The user 12345 may read, and the group may not: its bits of the mode are the mask."""
-        seen = Filter.from_bytes(WORKED)
+        seen = self.filters.from_bytes(self.worked)
         seen.save(self.path)
         self.path.chmod(0o600)
         self.set_list(
@@ -266,7 +303,7 @@ class Files(unittest.TestCase):
         self.assertEqual((self.path.stat().st_mode, self.lists(self.path)), before)
 
     def test_a_list_that_cannot_be_kept_leaves_the_owner_alone(self):
-        seen = Filter.from_bytes(WORKED)
+        seen = self.filters.from_bytes(self.worked)
         for name in ("setxattr", "fchown"):
             seen.save(self.path)
             self.set_list(
@@ -283,7 +320,7 @@ class Files(unittest.TestCase):
             self.path.unlink()
 
     def test_the_default_list_of_a_folder_neither_opens_a_file_nor_shuts_it(self):
-        seen = Filter.from_bytes(WORKED)
+        seen = self.filters.from_bytes(self.worked)
         seen.save(self.path)
         folder = self.folder.name
         self.set_list(
@@ -305,7 +342,7 @@ class Files(unittest.TestCase):
         self.assertEqual(stat.S_IMODE(self.path.stat().st_mode), 0o600)
 
     def test_a_group_that_cannot_be_kept_is_among_the_others(self):
-        seen = Filter.from_bytes(WORKED)
+        seen = self.filters.from_bytes(self.worked)
         for mode, wanted in (
             (0o604, 0o600),
             (0o664, 0o604),
@@ -319,30 +356,27 @@ class Files(unittest.TestCase):
             self.assertEqual(stat.S_IMODE(self.path.stat().st_mode), wanted)
 
     def test_a_name_may_have_255_bytes(self):
-        seen = Filter.from_bytes(WORKED)
+        seen = self.filters.from_bytes(self.worked)
         for name in ("a" * 233, "a" * 234, "\u00e9" * 127, "a" * 255):
             path = Path(self.folder.name) / name
             for _ in range(2):
                 seen.save(path)
             self.assertEqual(os.listdir(self.folder.name), [name])
-            self.assertEqual(Filter.load(path), seen)
+            self.assertEqual(self.filters.load(path), seen)
             path.unlink()
 
     def test_a_descriptor_is_no_path(self):
         with open(os.devnull, "rb") as file:
             number = file.fileno()
-            for filters in (Filter, BlockedFilter):
-                self.assertRaises(TypeError, filters.load, number)
-                self.assertRaises(TypeError, filters(10, "1/2").save, number)
-            for filters in (SharedFilter, SharedBlockedFilter):
-                self.assertRaises(TypeError, filters.map, number)
+            self.assertRaises(TypeError, self.filters.load, number)
+            self.assertRaises(TypeError, self.filters(10, "1/2").save, number)
+            self.assertRaises(TypeError, self.shared.map, number)
             self.assertEqual(file.read(), b"")
-        for filters in (Filter, BlockedFilter):
-            for number in (True, None, 1.0):
-                self.assertRaises(TypeError, filters.load, number)
+        for number in (True, None, 1.0):
+            self.assertRaises(TypeError, self.filters.load, number)
 
     def test_a_file_that_another_process_has_leased_is_waited_for(self):
-        self.path.write_bytes(WORKED)
+        self.path.write_bytes(self.worked)
         code = (
             "import fcntl, os, signal, sys\n"
             "signal.pthread_sigmask(signal.SIG_BLOCK, [signal.SIGIO])\n"
@@ -355,11 +389,11 @@ class Files(unittest.TestCase):
         words = [sys.executable, "-c", code, str(self.path)]
         with subprocess.Popen(words, stdout=subprocess.PIPE) as holder:
             self.assertEqual(holder.stdout.readline(), b"leased\n")
-            self.assertIn("crab", Filter.load(self.path))
+            self.assertIn("crab", self.filters.load(self.path))
             self.assertEqual(holder.wait(60), 0)
 
     def test_nobody_else_reads_a_secret_file_while_it_is_written(self):
-        self.path.write_bytes(WORKED)
+        self.path.write_bytes(self.worked)
         self.path.chmod(0o600)
         modes, fsync = [], os.fsync
 
@@ -377,7 +411,7 @@ class Files(unittest.TestCase):
             return plain_open(path, flags, mode, **options)
 
         with mock.patch.object(os, "fsync", told), mock.patch.object(os, "open", told_open):
-            Filter.from_bytes(WORKED).save(self.path)
+            self.filters.from_bytes(self.worked).save(self.path)
         self.assertEqual((opened, modes), ([0o600], [0o600]))
 
     def test_the_folder_is_flushed_once_the_file_has_its_name(self):
@@ -394,7 +428,7 @@ class Files(unittest.TestCase):
         for path in (self.path, "seen.bloom", b"seen.bloom"):
             flushed.clear()
             with mock.patch.object(os, "fsync", told):
-                Filter.from_bytes(WORKED).save(path)
+                self.filters.from_bytes(self.worked).save(path)
             self.assertEqual(len(flushed), 2)
             self.assertFalse(flushed[0][0])
             self.assertEqual(flushed[1], (os.stat(folder).st_ino, ["seen.bloom"]))
@@ -408,7 +442,7 @@ class Files(unittest.TestCase):
                 raise OSError(why, os.strerror(why))
             fsync(descriptor)
 
-        seen = Filter.from_bytes(WORKED)
+        seen = self.filters.from_bytes(self.worked)
         with mock.patch.object(os, "fsync", failing):
             why = errno.EINVAL  # what a file system says that has no such call
             seen.save(self.path)
@@ -417,7 +451,7 @@ class Files(unittest.TestCase):
             with self.assertRaises(OSError) as raised:
                 seen.save(self.path)
         self.assertEqual(raised.exception.errno, errno.EIO)
-        self.assertEqual(Filter.load(self.path), seen)
+        self.assertEqual(self.filters.load(self.path), seen)
         self.assertEqual(os.listdir(self.folder.name), [self.path.name])
 
     def test_what_is_no_regular_file_is_neither_read_nor_replaced(self):
@@ -432,23 +466,21 @@ class Files(unittest.TestCase):
         names = sorted(os.listdir(folder))
         kinds = [(folder / name).lstat().st_mode for name in names]
         refused = {"folder": errno.EISDIR, "socket": errno.ENXIO, "ring": errno.ELOOP}
-        for seen in (Filter(10, "1/1000"), BlockedFilter(10, "1/1000")):
-            for name, wanted in refused.items():
-                with self.assertRaises(OSError) as raised:
-                    seen.save(folder / name)
-                self.assertEqual(raised.exception.errno, wanted)
-            seen.save(folder / "null")
-            for name in names:
-                self.assertRaises(OSError, type(seen).load, folder / name)
-                self.assertRaises(OSError, type(seen).load, folder / name, mapped=True)
-        for shared in (SharedFilter, SharedBlockedFilter):
-            for name in names:
-                self.assertRaises(OSError, shared.map, folder / name)
+        seen = self.filters(10, "1/1000")
+        for name, wanted in refused.items():
+            with self.assertRaises(OSError) as raised:
+                seen.save(folder / name)
+            self.assertEqual(raised.exception.errno, wanted)
+        seen.save(folder / "null")
+        for name in names:
+            self.assertRaises(OSError, self.filters.load, folder / name)
+            self.assertRaises(OSError, self.filters.load, folder / name, mapped=True)
+            self.assertRaises(OSError, self.shared.map, folder / name)
         self.assertEqual(sorted(os.listdir(folder)), names)
         self.assertEqual([(folder / name).lstat().st_mode for name in names], kinds)
 
     def test_a_pipe_is_written_as_a_stream(self):
-        seen = Filter.from_bytes(WORKED)
+        seen = self.filters.from_bytes(self.worked)
         os.mkfifo(self.path)
         link = Path(self.folder.name) / "link"
         os.symlink(self.path.name, link)
@@ -456,10 +488,10 @@ class Files(unittest.TestCase):
         self.addCleanup(os.close, reader)
         for path in (self.path, link):
             seen.save(path)
-            self.assertEqual(os.read(reader, 100), WORKED)
+            self.assertEqual(os.read(reader, 1000), self.worked)
         self.assertTrue(stat.S_ISFIFO(self.path.stat().st_mode) and link.is_symlink())
         # A thread of this process may read what it saves, also more than a pipe has room for.
-        large, (end, start), read = Filter(1_000_000, "1/1000"), os.pipe(), []
+        large, (end, start), read = self.filters(1_000_000, "1/1000"), os.pipe(), []
         with open(end, "rb") as file:
             thread = threading.Thread(target=lambda: read.append(file.read()))
             thread.start()
@@ -469,7 +501,7 @@ class Files(unittest.TestCase):
         self.assertEqual(read, [large.to_bytes()])
 
     def test_a_descriptor_goes_on_at_its_place(self):
-        seen = Filter.from_bytes(WORKED)
+        seen = self.filters.from_bytes(self.worked)
         link = Path(self.folder.name) / "link"
         with open(self.path, "w+b", buffering=0) as file:
             number = file.fileno()
@@ -482,7 +514,7 @@ class Files(unittest.TestCase):
                 file.seek(6)
                 seen.save(path)
                 file.write(b"|")
-                self.assertEqual(self.path.read_bytes(), b"before" + WORKED + b"|")
+                self.assertEqual(self.path.read_bytes(), b"before" + self.worked + b"|")
             self.assertTrue(link.is_symlink())
         self.assertEqual(sorted(os.listdir(self.folder.name)), ["link", self.path.name])
         with self.assertRaises(OSError) as raised:  # it is closed
@@ -495,21 +527,21 @@ class Files(unittest.TestCase):
     def test_the_standard_output_is_written(self):
         """By a link as /dev/stdout is one, which a fault might replace."""
         code = (
-            "import sys; from fastbloom import Filter\n"
+            f"import sys; from fastbloom import {self.filters.__name__}\n"
             "sys.stdout.write('before'); sys.stdout.flush()\n"
-            "Filter.from_bytes(bytes.fromhex(sys.argv[1])).save(sys.argv[2])\n"
+            f"{self.filters.__name__}.from_bytes(bytes.fromhex(sys.argv[1])).save(sys.argv[2])\n"
             "sys.stdout.write('after')\n"
         )
         link = Path(self.folder.name) / "stdout"
         os.symlink("/proc/self/fd/1", link)
-        words = [sys.executable, "-c", code, WORKED.hex(), str(link)]
+        words = [sys.executable, "-c", code, self.worked.hex(), str(link)]
         with open(self.path, "wb") as file:
             subprocess.run(words, stdout=file, timeout=60, check=True)
-        self.assertEqual(self.path.read_bytes(), b"before" + WORKED + b"after")
+        self.assertEqual(self.path.read_bytes(), b"before" + self.worked + b"after")
         self.assertEqual(os.readlink(link), "/proc/self/fd/1")
 
     def test_a_link_stays_and_what_it_leads_to_is_replaced(self):
-        seen, folder = Filter.from_bytes(WORKED), Path(self.folder.name)
+        seen, folder = self.filters.from_bytes(self.worked), Path(self.folder.name)
         os.mkdir(folder / "folder")
         os.symlink("folder/first", folder / "link")
         os.symlink("second", folder / "folder" / "first")
@@ -521,7 +553,7 @@ class Files(unittest.TestCase):
             seen.save(folder / "link")
             self.assertTrue((folder / "link").is_symlink() and not end.is_symlink())
             self.assertTrue((folder / "folder" / "first").is_symlink())
-            self.assertEqual(end.read_bytes(), WORKED)
+            self.assertEqual(end.read_bytes(), self.worked)
         self.assertEqual(stat.S_IMODE(end.stat().st_mode), 0o604)
         self.assertEqual(sorted(os.listdir(folder / "folder")), ["first", "second"])
 
@@ -537,7 +569,7 @@ class Files(unittest.TestCase):
                         os.setresuid(1235, 1235, 1235)
                     except OSError:
                         os._exit(255)
-                Filter.from_bytes(WORKED).save(path.name)
+                self.filters.from_bytes(self.worked).save(path.name)
             except OSError as error:
                 os._exit(error.errno)
             os._exit(0)
@@ -554,7 +586,7 @@ class Files(unittest.TestCase):
         finally:
             folder.chmod(0o700)
         self.assertEqual(os.listdir(folder), [self.path.name])
-        self.assertEqual(self.path.read_bytes(), WORKED)
+        self.assertEqual(self.path.read_bytes(), self.worked)
 
     @unittest.skipUnless(os.geteuid() == 0, "only root has files of other users")
     def test_a_link_of_another_user_in_a_folder_of_all_is_not_followed(self):
@@ -575,17 +607,17 @@ class Files(unittest.TestCase):
                 self.path.unlink()
 
     def test_a_file_is_written_with_no_copy_of_its_words(self):
-        for seen in (Filter(1_000_000, "1/1000"), BlockedFilter(1_000_000, "1/1000")):
-            seen.add("crab")
-            size = 8 * seen.num_words
-            for sealed in (False, True):
-                self.assertLess(peak_of(lambda: seen.save(self.path, sealed)), size // 2)
-                self.assertLess(peak_of(lambda: seen.to_bytes(sealed)), size * 3 // 2)
-                self.assertEqual(self.path.read_bytes(), seen.to_bytes(sealed))
-            self.assertEqual(type(seen).load(self.path), seen)
+        seen = self.filters(1_000_000, "1/1000")
+        seen.add("crab")
+        size = 8 * seen.num_words
+        for sealed in (False, True):
+            self.assertLess(peak_of(lambda: seen.save(self.path, sealed)), size // 2)
+            self.assertLess(peak_of(lambda: seen.to_bytes(sealed)), size * 3 // 2)
+            self.assertEqual(self.path.read_bytes(), seen.to_bytes(sealed))
+        self.assertEqual(self.filters.load(self.path), seen)
 
     def test_a_file_that_is_saved_while_threads_add_has_a_right_seal(self):
-        seen = Filter(1_000_000, "1/1000")
+        seen = self.filters(1_000_000, "1/1000")
         seen.update(f"item{number}" for number in range(1000))
         going = True
 
@@ -601,7 +633,7 @@ class Files(unittest.TestCase):
         try:
             for _ in range(20):
                 seen.save(self.path)
-                read = Filter.load(self.path)
+                read = self.filters.load(self.path)
                 self.assertTrue(all(f"item{number}" in read for number in range(1000)))
         finally:
             going = False
@@ -609,7 +641,7 @@ class Files(unittest.TestCase):
                 thread.join()
 
     def test_a_signal_may_save_the_file_that_is_being_saved(self):
-        first, second = Filter.from_bytes(WORKED), Filter.from_bytes(WORKED)
+        first, second = self.filters.from_bytes(self.worked), self.filters.from_bytes(self.worked)
         second.add("whale")
         fsync = os.fsync
 
@@ -627,30 +659,30 @@ class Files(unittest.TestCase):
         self.addCleanup(signal.signal, signal.SIGALRM, signal.signal(signal.SIGALRM, save))
         with mock.patch.object(os, "fsync", interrupted):
             first.save(self.path)
-        self.assertEqual((told, Filter.load(self.path)), ([True], first))
+        self.assertEqual((told, self.filters.load(self.path)), ([True], first))
         self.assertEqual(os.listdir(self.folder.name), [self.path.name])
 
     def test_bytes_like_objects_are_read(self):
-        for data in (bytearray(WORKED), memoryview(WORKED)):
-            self.assertEqual(Filter.from_bytes(data).to_bytes(), WORKED)
-        data = bytearray(WORKED)
-        seen = Filter.from_bytes(data)
+        for data in (bytearray(self.worked), memoryview(self.worked)):
+            self.assertEqual(self.filters.from_bytes(data).to_bytes(), self.worked)
+        data = bytearray(self.worked)
+        seen = self.filters.from_bytes(data)
         data[64:] = bytes(8)
-        self.assertEqual(seen.to_bytes(), WORKED)
+        self.assertEqual(seen.to_bytes(), self.worked)
         for data in ("crab", 72, None, [1, 2]):
-            self.assertRaises(TypeError, Filter.from_bytes, data)
+            self.assertRaises(TypeError, self.filters.from_bytes, data)
 
     def test_a_write_that_fails_leaves_the_old_file(self):
-        seen = Filter.from_bytes(WORKED)
+        seen = self.filters.from_bytes(self.worked)
         self.assertRaises(OSError, seen.save, Path(self.folder.name) / "none" / "seen.bloom")
         self.path.mkdir()
         self.assertRaises(OSError, seen.save, self.path)
         self.assertEqual(os.listdir(self.folder.name), [self.path.name])
-        self.assertRaises(OSError, Filter.load, self.path)
-        self.assertRaises(OSError, Filter.load, Path(self.folder.name) / "none")
+        self.assertRaises(OSError, self.filters.load, self.path)
+        self.assertRaises(OSError, self.filters.load, Path(self.folder.name) / "none")
 
     def test_threads_that_save_one_file_leave_a_whole_one(self):
-        filters = [Filter(100_000, "1/1000") for _ in range(4)]
+        filters = [self.filters(100_000, "1/1000") for _ in range(4)]
         for number, seen in enumerate(filters):
             seen.add(f"item{number}")
 
@@ -659,7 +691,7 @@ class Files(unittest.TestCase):
                 seen.save(self.path)
 
         storm.at_once(*(lambda seen=seen: save(seen) for seen in filters))
-        self.assertIn(Filter.load(self.path), filters)
+        self.assertIn(self.filters.load(self.path), filters)
         self.assertEqual(os.listdir(self.folder.name), [self.path.name])
 
 

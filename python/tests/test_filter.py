@@ -17,14 +17,14 @@ from fractions import Fraction
 from unittest import mock
 
 import fastbloom
-from fastbloom import Estimate, Filter, Refusal
+from fastbloom import BlockedFilter, Estimate, Filter, Refusal
+from kinds import COUNTING_KEY, for_each_kind
 
 try:
     import numpy
 except ImportError:
     numpy = None
 
-COUNTING_KEY = bytes(range(16))
 # SipHash-1-3 under the key bytes 0 to 15, by the crate siphasher 0.3.10, of the first bytes of this
 # text, by their number.
 TEXT = bytes((3 + 7 * place) % 256 for place in range(17))
@@ -42,29 +42,42 @@ def small(**options):
     return Filter(1000, "1/1000", **options)
 
 
-class Named(Filter):
-    """A subclass with an attribute."""
-
-    def __init__(self, name):
-        super().__init__(1000, "1/1000")
-        self.name = [name]
+class Subclasses:
+    """Subclasses of each kind, by its name, where pickles find them."""
 
 
-class Slotted(Filter):
-    """A subclass with attributes in slots, of which one is private and one isn't set."""
+def add_subclasses(filters):
+    class Named(filters):
+        """A subclass with an attribute."""
 
-    __slots__ = ("name", "__kept", "unset")
+        def __init__(self, name):
+            super().__init__(1000, "1/1000")
+            self.name = [name]
 
-    def __init__(self, name):
-        super().__init__(1000, "1/1000")
-        self.name, self.__kept = [name], name
+    class Slotted(filters):
+        """A subclass with attributes in slots, of which one is private and one isn't set."""
 
-    def kept(self):
-        return self.__kept
+        __slots__ = ("name", "__kept", "unset")
+
+        def __init__(self, name):
+            super().__init__(1000, "1/1000")
+            self.name, self.__kept = [name], name
+
+        def kept(self):
+            return self.__kept
+
+    class Both(Slotted):
+        """A subclass of it that has all attributes."""
+
+    holder = type(filters.__name__, (), {"__qualname__": f"Subclasses.{filters.__name__}"})
+    for cls in (Named, Slotted, Both):
+        cls.__qualname__ = f"{holder.__qualname__}.{cls.__name__}"
+        setattr(holder, cls.__name__, cls)
+    setattr(Subclasses, filters.__name__, holder)
 
 
-class Both(Slotted):
-    """A subclass of it that has all attributes."""
+add_subclasses(Filter)
+add_subclasses(BlockedFilter)
 
 
 class Bytes(bytes):
@@ -97,9 +110,10 @@ def items_of(words, hashes):
         return (1 - Decimal(ones) / bits).ln() / (hashes * (1 - Decimal(1) / bits).ln())
 
 
-class Items(unittest.TestCase):
+@for_each_kind
+class Items:
     def test_texts_count_as_their_bytes(self):
-        seen = small()
+        seen = self.small()
         for item in ("crab", "Krabbe ü", "", "nul\0nul"):
             self.assertFalse(seen.add(item))
             self.assertTrue(seen.add(item.encode()))
@@ -107,7 +121,7 @@ class Items(unittest.TestCase):
         self.assertNotIn("nul", seen)
 
     def test_bytes_like_objects_are_their_bytes(self):
-        seen, numbers = small(), array.array("I", [1, 2, 3])
+        seen, numbers = self.small(), array.array("I", [1, 2, 3])
         raw = numbers.tobytes()
         for item in (
             numbers,
@@ -120,7 +134,7 @@ class Items(unittest.TestCase):
             self.assertIn(item, seen)
 
     def test_nothing_else_is_an_item(self):
-        seen = small()
+        seen = self.small()
         for item in (
             5,
             10**12,
@@ -144,14 +158,14 @@ class Items(unittest.TestCase):
                     call(item)
         with self.assertRaises(UnicodeEncodeError):
             seen.add("\ud800")
-        self.assertEqual(seen, small())
+        self.assertEqual(seen, self.small())
 
     def test_a_value_that_has_a_buffer_is_no_item(self):
         """Numbers, pointers, and buffers that aren't handed out any more."""
         released, closed = memoryview(b"crab"), mmap.mmap(-1, 4)
         released.release()
         closed.close()
-        seen = small()
+        seen = self.small()
         for item in (
             ctypes.c_int(5),
             ctypes.c_char_p(b"crab"),
@@ -177,11 +191,11 @@ class Items(unittest.TestCase):
             "an item is a str or a bytes-like object, not "
             "memoryview: operation forbidden on released memoryview object",
         )
-        self.assertEqual(seen, small())
+        self.assertEqual(seen, self.small())
 
     @unittest.skipUnless(numpy, "there is no numpy")
     def test_values_of_numpy(self):
-        seen = small()
+        seen = self.small()
         for item in (
             numpy.int64(5),
             numpy.float32(1),
@@ -195,7 +209,7 @@ class Items(unittest.TestCase):
             for call in (seen.add, lambda item: seen.update([item])):
                 with self.assertRaises(TypeError):
                     call(item)
-        self.assertEqual(seen, small())
+        self.assertEqual(seen, self.small())
         # The name of a field isn't a kind of its values.
         record = numpy.array([(1, 2.0)], dtype=[("OPX", "i4"), ("Z", "f8")])
         for item in (
@@ -210,12 +224,12 @@ class Items(unittest.TestCase):
         self.assertEqual(seen.contains_many([b"crab", "eel", raw, record.tobytes()]), [True] * 4)
 
     def test_hashes_are_those_of_the_bytes_under_the_key(self):
-        keyed = Filter(1, "1/2", COUNTING_KEY)
+        keyed = self.filters(1, "1/2", COUNTING_KEY)
         for length, value in HASHES.items():
             self.assertEqual(keyed.hash(TEXT[:length]), value)
 
     def test_a_hash_is_in_its_range(self):
-        seen = small()
+        seen = self.small()
         self.assertFalse(seen.add_hash(2**64 - 1))
         self.assertTrue(seen.contains_hash(2**64 - 1))
         for value in (-1, 2**64):
@@ -225,18 +239,19 @@ class Items(unittest.TestCase):
                 self.assertRaises(TypeError, call, "crab")
 
     def test_a_filter_has_no_length_and_no_elements(self):
-        seen = small()
+        seen = self.small()
         self.assertRaises(TypeError, len, seen)
         self.assertRaises(TypeError, iter, seen)
         self.assertRaises(TypeError, hash, seen)
         self.assertTrue(seen)
 
 
-class Many(unittest.TestCase):
+@for_each_kind
+class Many:
     def test_many_are_added_as_one_by_one(self):
         for count in (0, 1, 4095, 4096, 4097, 10_000):
             items = [f"item{number}" for number in range(count)]
-            one, many = Filter(10_000, "1/1000"), Filter(10_000, "1/1000")
+            one, many = self.filters(10_000, "1/1000"), self.filters(10_000, "1/1000")
             for item in items:
                 one.add(item)
             many.update(iter(items))
@@ -244,12 +259,12 @@ class Many(unittest.TestCase):
             self.assertEqual(many.contains_many(item for item in items), [True] * count)
 
     def test_answers_are_in_order(self):
-        seen = small()
+        seen = self.small()
         seen.update(["crab", b"lobster"])
         self.assertEqual(seen.contains_many(["crab", "whale", "lobster"]), [True, False, True])
 
     def test_many_answers_are_those_of_single_look_ups(self):
-        seen = Filter(3000, "1/10")
+        seen = self.filters(3000, "1/10")
         seen.update(f"item{number}" for number in range(3000))
         for count in (0, 1, 63, 64, 65, 4095, 4096, 4097, 9000):
             items = [f"item{number}" for number in range(2950, 2950 + count)]
@@ -262,19 +277,19 @@ class Many(unittest.TestCase):
             yield "crab"
             raise KeyError("whale")
 
-        seen = small()
+        seen = self.small()
         self.assertRaises(KeyError, seen.contains_many, items())
         self.assertRaises(KeyError, seen.update, items())
         self.assertIn("crab", seen)
 
     def test_what_came_before_a_refusal_is_added(self):
-        seen = small()
+        seen = self.small()
         with self.assertRaises(TypeError):
             seen.update(["crab", 5, "whale"])
         self.assertEqual(seen.contains_many(["crab", "whale"]), [True, False])
 
     def test_one_item_is_not_many(self):
-        seen = small()
+        seen = self.small()
         for item in (
             "crab",
             b"crab",
@@ -289,17 +304,17 @@ class Many(unittest.TestCase):
         ):
             self.assertRaises(TypeError, seen.update, item)
             self.assertRaises(TypeError, seen.contains_many, item)
-        self.assertEqual(seen, small())
+        self.assertEqual(seen, self.small())
 
     @unittest.skipUnless(numpy, "there is no numpy")
     def test_arrays_of_numpy(self):
-        seen = small()
+        seen = self.small()
         for numbers in ([1, 2], b"crab", [1.5], []):
             kind = "u1" if isinstance(numbers, bytes) else None
             item = numpy.array(list(numbers), dtype=kind)
             self.assertRaises(TypeError, seen.update, item)
             self.assertRaises(TypeError, seen.contains_many, item)
-        self.assertEqual(seen, small())
+        self.assertEqual(seen, self.small())
         seen.update(numpy.array(["crab", "Krabbe ü"]))
         seen.update(numpy.array([b"eel", b"lobster"]))
         seen.update(numpy.array(["whale", b"prawn"], dtype=object))
@@ -511,6 +526,11 @@ class Sizes(unittest.TestCase):
         read = Filter.from_bytes(small().to_bytes())
         self.assertEqual(repr(read), "<Filter: 14400 bits, 10 hashes, the zero key>")
 
+    def test_a_filter_with_many_hashes_is_pickled(self):
+        seen = Filter(1, f"1/{2**64 - 1}")
+        self.assertEqual(seen.num_hashes, 89)
+        self.assertEqual(pickle.loads(pickle.dumps(seen)), seen)
+
     def test_the_version(self):
         self.assertRegex(fastbloom.__version__, r"\d+\.\d+\.\d+")
 
@@ -535,7 +555,7 @@ class Rings(unittest.TestCase):
         raised, gone = [], []
         with mock.patch.object(sys, "unraisablehook", raised.append):
             for _ in range(3):
-                made = Named("crab")
+                made = Subclasses.Filter.Named("crab")
                 made.me, made.words_of_me = made, made.view()
                 weakref.finalize(made, gone.append, True)
                 del made
@@ -543,29 +563,7 @@ class Rings(unittest.TestCase):
         self.assertEqual((raised, len(gone)), ([], 3))
 
 
-class Sets(unittest.TestCase):
-    def setUp(self):
-        names = [f"item{number}" for number in range(1000)]
-        self.odd, self.even, self.all = small(), small(), small()
-        self.odd.update(names[1::2])
-        self.even.update(names[::2])
-        self.all.update(names)
-
-    def test_unions_and_intersections(self):
-        odd, even = self.odd.copy(), self.even.copy()
-        self.assertEqual(odd | even, self.all)
-        self.assertEqual((odd | even) & odd, odd)
-        self.assertEqual((odd, even), (self.odd, self.even))
-        both = odd
-        both |= even
-        self.assertIs(both, odd)
-        self.assertEqual(odd, self.all)
-        odd &= even
-        self.assertEqual(odd, even)
-        odd |= odd
-        odd &= odd
-        self.assertEqual(odd, even)
-
+class Common(unittest.TestCase):
     def test_what_two_have_in_common_by_hand(self):
         one, two, three = of_words([1], 1), of_words([2], 1), of_words([7], 1)
         self.assertEqual(one.estimated_union(one), (1, 1))
@@ -603,10 +601,35 @@ class Sets(unittest.TestCase):
             self.assertLessEqual(low, common / all_items)
             self.assertLessEqual(common / all_items, high)
 
+
+@for_each_kind
+class Sets:
+    def setUp(self):
+        names = [f"item{number}" for number in range(1000)]
+        self.odd, self.even, self.all = self.small(), self.small(), self.small()
+        self.odd.update(names[1::2])
+        self.even.update(names[::2])
+        self.all.update(names)
+
+    def test_unions_and_intersections(self):
+        odd, even = self.odd.copy(), self.even.copy()
+        self.assertEqual(odd | even, self.all)
+        self.assertEqual((odd | even) & odd, odd)
+        self.assertEqual((odd, even), (self.odd, self.even))
+        both = odd
+        both |= even
+        self.assertIs(both, odd)
+        self.assertEqual(odd, self.all)
+        odd &= even
+        self.assertEqual(odd, even)
+        odd |= odd
+        odd &= odd
+        self.assertEqual(odd, even)
+
     def test_other_filters_are_refused(self):
         for other, name in (
-            (Filter(10, "1/1000"), "num_words"),
-            (small(key=COUNTING_KEY), "key"),
+            (self.filters(10, "1/1000"), "num_words"),
+            (self.small(key=COUNTING_KEY), "key"),
             (self.other_hashes(), "num_hashes"),
         ):
             before = self.odd.copy()
@@ -622,9 +645,9 @@ class Sets(unittest.TestCase):
             self.assertNotEqual(self.odd, other)
 
     def other_hashes(self):
-        file = bytearray(small().to_bytes(sealed=False))
-        file[8] = 9
-        return Filter.from_bytes(file)
+        file = bytearray(self.small().to_bytes(sealed=False))
+        file[8] = 8
+        return self.filters.from_bytes(file)
 
     def test_what_is_no_filter_is_refused(self):
         for other in (None, 5, {"crab"}, "crab"):
@@ -638,17 +661,18 @@ class Sets(unittest.TestCase):
 
     def test_clearing(self):
         self.odd.clear()
-        self.assertEqual(self.odd, small())
+        self.assertEqual(self.odd, self.small())
 
 
-class Copies(unittest.TestCase):
+@for_each_kind
+class Copies:
     def copies(self, seen):
         yield from (seen.copy(), copy.copy(seen), copy.deepcopy(seen))
         for protocol in range(pickle.HIGHEST_PROTOCOL + 1):
             yield pickle.loads(pickle.dumps(seen, protocol))
 
     def test_copies_are_filters_of_their_own(self):
-        seen = small(key=COUNTING_KEY)
+        seen = self.small(key=COUNTING_KEY)
         seen.add("crab")
         for other in self.copies(seen):
             self.assertEqual(other, seen)
@@ -656,38 +680,37 @@ class Copies(unittest.TestCase):
             self.assertFalse(other.add("whale"))
             self.assertNotIn("whale", seen)
             self.assertNotEqual(other, seen)
+        self.assertEqual(list(seen.view()), seen.words())
+        self.assertRaises(TypeError, seen.view().__setitem__, 0, 1)
 
     def test_copies_keep_what_a_subclass_adds(self):
-        seen = Named("fish")
+        named = getattr(Subclasses, self.filters.__name__).Named
+        seen = named("fish")
         for other in self.copies(seen):
-            self.assertIs(type(other), Named)
+            self.assertIs(type(other), named)
             self.assertEqual(other.name, ["fish"])
         self.assertIs(copy.copy(seen).name, seen.name)
         self.assertIsNot(copy.deepcopy(seen).name, seen.name)
-        self.assertIs(type(seen | small()), Named)
+        self.assertIs(type(seen | self.small()), named)
 
     def test_copies_keep_what_a_subclass_has_in_slots(self):
-        for cls in (Slotted, Both):
+        subclasses = getattr(Subclasses, self.filters.__name__)
+        for cls in (subclasses.Slotted, subclasses.Both):
             seen = cls("fish")
-            if cls is Both:
+            if cls is subclasses.Both:
                 seen.more = "shell"
             for other in self.copies(seen):
                 self.assertIs(type(other), cls)
                 self.assertEqual((other.name, other.kept()), (["fish"], "fish"))
                 self.assertFalse(hasattr(other, "unset"))
                 self.assertEqual(getattr(other, "more", "shell"), "shell")
-                self.assertEqual(hasattr(other, "more"), cls is Both)
+                self.assertEqual(hasattr(other, "more"), cls is subclasses.Both)
             self.assertIs(copy.copy(seen).name, seen.name)
             self.assertIsNot(copy.deepcopy(seen).name, seen.name)
 
     def test_one_filter_twice_stays_one(self):
-        one, other = copy.deepcopy([small()] * 2)
+        one, other = copy.deepcopy([self.small()] * 2)
         self.assertIs(one, other)
-
-    def test_a_filter_with_many_hashes_is_pickled(self):
-        seen = Filter(1, f"1/{2**64 - 1}")
-        self.assertEqual(seen.num_hashes, 89)
-        self.assertEqual(pickle.loads(pickle.dumps(seen)), seen)
 
 
 if __name__ == "__main__":

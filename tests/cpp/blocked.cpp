@@ -3,8 +3,7 @@
 // folded. The class of filters that threads share gets the same by one thread. Then it tries what
 // the classes add to the calls of C, and files. HEX is the worked file in hexadecimal digits. It
 // leaves the file of item0 to item999 in FOLDER/cpp.blocked, and wants it in each FILE.
-#include "fastbloom_blocked_shared.hpp"
-#include "fastbloom_shared.hpp"
+#include "kinds.hpp"
 
 #include <cinttypes>
 #include <cstdint>
@@ -17,22 +16,6 @@
 
 using fastbloom::blocked_filter;
 using fastbloom::shared_blocked_filter;
-using fastbloom::status;
-
-static void check(bool holds, int line, const char *text) {
-    if (holds) return;
-    std::fprintf(stderr, "blocked: line %d: %s\n", line, text);
-    std::exit(1);
-}
-
-#define CHECK(x) check((x), __LINE__, #x)
-
-static_assert(!std::is_copy_constructible_v<blocked_filter>);
-static_assert(!std::is_copy_assignable_v<blocked_filter>);
-static_assert(std::is_nothrow_move_constructible_v<blocked_filter>);
-static_assert(std::is_nothrow_move_assignable_v<blocked_filter>);
-static_assert(!std::is_copy_constructible_v<shared_blocked_filter>);
-static_assert(std::is_nothrow_move_assignable_v<shared_blocked_filter>);
 
 // Whether a call compiles. 0 and nullptr are no items, of any class.
 #define COMPILES(name, call)                                                                       \
@@ -115,27 +98,11 @@ template <typename Filter> static std::uint64_t number_of(std::uint64_t session)
 }
 
 static blocked_filter of_items(const std::vector<std::string> &items) {
-    auto made = blocked_filter::make(1, 1000, 1000);
-    CHECK(static_cast<bool>(made) && made->num_words() == 248 && made->num_hashes() == 9);
-    made->insert_range(items);
-    return *std::move(made);
-}
-
-static void try_items() {
-    blocked_filter seen = of_items({"crab", "lobster"}), other = of_items({"lobster", "whale"});
-    CHECK(seen.contains("crab") && seen.insert("lobster") && !seen.contains("whale"));
-    CHECK(seen.contains_hash(seen.begin_hash().update("cr").update("ab").finish()));
-    CHECK(seen.contains_hash(seen.hash("crab")));
-    auto both = seen.clone(), common = seen.clone();
-    CHECK(both && common && *both == seen && seen != other);
-    CHECK(both->unite(other) && both->contains("whale") && both->contains("crab"));
-    CHECK(common->intersect(other) && common->contains("lobster") && !common->contains("crab"));
-    CHECK((*common |= seen) && *common == seen && (*both &= seen) && *both == seen);
-    CHECK(seen.unite(seen) && seen.count_ones() == common->count_ones());
-    seen.clear();
-    CHECK(seen.count_ones() == 0 && !seen.contains("crab") && !seen.insert("crab"));
-    // The lines lie where those of the cache do.
-    CHECK(reinterpret_cast<std::uintptr_t>(seen.data()) % 64 == 0);
+    blocked_filter made = empty<blocked_filter>();
+    CHECK(made.num_words() == 248 && made.num_hashes() == 9);
+    CHECK(reinterpret_cast<std::uintptr_t>(made.data()) % 64 == 0);
+    made.insert_range(items);
+    return made;
 }
 
 // Items that lie one behind the other, or come in pieces, have the hash of each, in every class.
@@ -209,36 +176,6 @@ static void try_refusals() {
     CHECK(moved.contains("crab") && some.num_words() == 0 && !some.contains("crab"));
 }
 
-static fastbloom::key_bytes counting_key() {
-    fastbloom::key_bytes key{};
-    for (std::size_t i = 0; i < key.size(); i++) key[i] = static_cast<std::uint8_t>(i);
-    return key;
-}
-
-static std::vector<char> bytes_of(const blocked_filter &seen, bool sealed = true) {
-    const auto head = seen.head(sealed);
-    CHECK(static_cast<bool>(head));
-    std::vector<char> bytes(head->begin(), head->end());
-    const char *words = reinterpret_cast<const char *>(seen.data());
-    bytes.insert(bytes.end(), words, words + 8 * seen.num_words());
-    return bytes;
-}
-
-static std::vector<char> read_whole(const std::string &path) {
-    std::vector<char> bytes;
-    std::FILE *file = std::fopen(path.c_str(), "rb");
-    CHECK(file != nullptr);
-    for (int byte; (byte = std::fgetc(file)) != EOF;) bytes.push_back(static_cast<char>(byte));
-    std::fclose(file);
-    return bytes;
-}
-
-static void write_whole(const std::string &path, const std::vector<char> &bytes) {
-    std::FILE *file = std::fopen(path.c_str(), "wb");
-    CHECK(file != nullptr && std::fwrite(bytes.data(), 1, bytes.size(), file) == bytes.size());
-    CHECK(std::fclose(file) == 0);
-}
-
 // What each way to read the bytes of a file tells.
 static status told(const std::string &path, const std::vector<char> &bytes) {
     write_whole(path, bytes);
@@ -251,13 +188,7 @@ static status told(const std::string &path, const std::vector<char> &bytes) {
 // The worked file is read with its members, and written byte for byte. A truncated one is refused,
 // and one with a byte changed.
 static void try_worked(const char *hex, const std::string &path) {
-    std::vector<char> wanted;
-    std::FILE *file = std::fopen(hex, "r");
-    CHECK(file != nullptr);
-    for (unsigned byte; std::fscanf(file, "%2x", &byte) == 1;) {
-        wanted.push_back(static_cast<char>(byte));
-    }
-    std::fclose(file);
+    const std::vector<char> wanted = read_digits(hex);
     CHECK(wanted.size() == 128 && told(path, wanted) == status::ok);
     auto read = blocked_filter::load(path.c_str());
     CHECK(read && read->num_lines() == 1 && read->num_hashes() == 3);
@@ -290,77 +221,14 @@ static void try_worked(const char *hex, const std::string &path) {
     CHECK(std::string(fastbloom::reason(status::not_blocked)) == "the file's filter isn't blocked");
 }
 
-// Files are saved, loaded, mapped and shared, and each kind refuses the file of the other kind.
-static void try_files(const std::string &path) {
-    const blocked_filter seen = of_items({"crab", "lobster"});
-    CHECK(seen.save(path.c_str()) == status::ok && read_whole(path) == bytes_of(seen));
-    const auto loaded = blocked_filter::load(path.c_str());
-    CHECK(loaded && *loaded == seen);
-    auto mapped = fastbloom::mapped_blocked_filter::map(path.c_str());
-    CHECK(mapped && mapped->contains("crab") && !mapped->contains("whale"));
-    CHECK(mapped->num_lines() == seen.num_lines() && mapped->key() == seen.key());
-    const fastbloom::mapped_blocked_filter moved = *std::move(mapped);
-    const std::uint64_t hash = seen.hash("lobster");
-    std::uint64_t found = 0;
-    CHECK(moved.contains_hash(hash) && moved.contains_hashes(&hash, 1, &found, 1) && found == 1);
-    CHECK(*moved.clone() == seen && mapped->num_words() == 0 && !mapped->contains("crab"));
-    auto other = fastbloom::mapped_blocked_filter::map(path.c_str());
-    auto onto = fastbloom::mapped_blocked_filter::map(path.c_str());
-    CHECK(other && onto);
-    *onto = *std::move(other);
-    CHECK(onto->contains("crab") && other->num_words() == 0 && !other->contains("crab"));
-    // As many words as are allowed, and one more.
-    const std::size_t words = seen.num_words();
-    const std::vector<char> bytes = bytes_of(seen);
-    for (const std::size_t most : {words, words - 1}) {
-        const status why = most == words ? status::ok : status::too_many_words;
-        CHECK(blocked_filter::from_bytes(bytes.data(), bytes.size(), 64, most).status() == why);
-        CHECK(blocked_filter::load(path.c_str(), 64, most).status() == why);
-        CHECK(fastbloom::mapped_blocked_filter::map(path.c_str(), 64, most).status() == why);
-    }
-    CHECK(shared_blocked_filter::map(path.c_str(), 64, words - 1).status() ==
-          status::too_many_words);
-#ifdef __cpp_lib_span
-    CHECK(moved.words().data() == moved.data() && moved.words().size() == seen.num_words());
-    const std::vector<std::uint64_t> hashes{seen.hash("crab"), seen.hash("whale")};
-    std::vector<std::uint64_t> bits{~std::uint64_t{0}};
-    CHECK(moved.contains_hashes(hashes, bits) && bits[0] == 1 && mapped->words().empty());
-#endif
-    CHECK(fastbloom::filter::load(path.c_str()).status() == status::blocked);
-    CHECK(fastbloom::mapped_filter::map(path.c_str()).status() == status::blocked);
-    CHECK(fastbloom::shared_filter::map(path.c_str()).status() == status::blocked);
-    CHECK(shared_blocked_filter::map(path.c_str()).status() == status::sealed);
-    CHECK(blocked_filter::load(path.c_str(), 8).status() == status::too_many_hashes);
-    CHECK(blocked_filter{}.save(path.c_str()) == status::empty_words);
-    CHECK(blocked_filter{}.head().status() == status::empty_words);
-    CHECK(seen.save(path.c_str(), false) == status::ok);
-    {
-        auto shared = shared_blocked_filter::map(path.c_str());
-        CHECK(shared && shared->contains("crab") && !shared->insert("whale"));
-        const shared_blocked_filter owner = *std::move(shared);
-        CHECK(owner.contains("whale") && shared->num_words() == 0);
-        owner.insert_range(std::vector<std::string>{"prawn", "krill"});
-    }
-    const auto grown = blocked_filter::load(path.c_str());
-    CHECK(grown && grown->contains("whale") && grown->contains("krill") && *grown != seen);
-    const auto plain = fastbloom::filter::make(1, 1000, 1000);
-    CHECK(plain && plain->save(path.c_str(), false) == status::ok);
-    CHECK(told(path, read_whole(path)) == status::not_blocked);
-    CHECK(shared_blocked_filter::map(path.c_str()).status() == status::not_blocked);
-    CHECK(std::remove(path.c_str()) == 0);
-    CHECK(blocked_filter::load(path.c_str()).status() == status::input);
-}
-
 // The file of item0 to item999, which each language makes, is written and read.
 static void try_writers(const std::string &path, int count, char **others) {
-    auto seen = blocked_filter::make(1, 1000, 1000);
-    CHECK(static_cast<bool>(seen));
-    for (int i = 0; i < 1000; i++) seen->insert("item" + std::to_string(i));
-    CHECK(seen->save(path.c_str()) == status::ok);
+    const blocked_filter seen = thousand<blocked_filter>();
+    CHECK(seen.save(path.c_str()) == status::ok);
     for (int i = 0; i < count; i++) {
         const auto read = blocked_filter::load(others[i]);
         const auto mapped = fastbloom::mapped_blocked_filter::map(others[i]);
-        CHECK(read && mapped && *read == *seen && *mapped->clone() == *seen);
+        CHECK(read && mapped && *read == seen && *mapped->clone() == seen);
     }
 }
 
@@ -407,7 +275,6 @@ int main(int argc, char **argv) {
         std::printf("%s%" PRIu64 ",%s", session % 4 == 0 ? "    " : " ", number,
                     session % 4 == 3 ? "\n" : "");
     }
-    try_items();
     try_hash_items(*fastbloom::filter::make(1, 1000, 10, counting_key()));
     try_hash_items(*fastbloom::shared_filter::make(1, 1000, 10, counting_key()));
     try_hash_items(*blocked_filter::make(1, 1000, 10, counting_key()));
@@ -415,7 +282,6 @@ int main(int argc, char **argv) {
     try_shared();
     try_refusals();
     try_worked(argv[1], std::string(argv[2]) + "/cpp_blocked.bloom");
-    try_files(std::string(argv[2]) + "/cpp_blocked.bloom");
     try_writers(std::string(argv[2]) + "/cpp.blocked", argc - 3, argv + 3);
     return 0;
 }

@@ -1,9 +1,10 @@
-// Calls the class of C++, and prints the lines of the other languages' checks.
+// Calls the classes of C++, of each kind of filters, and prints the lines of the other languages'
+// checks.
 //
 // `check HEX FOLDER [FILE..]` leaves the file of the items in FOLDER/cpp.bloom. HEX is the file in
 // hexadecimal digits. Each FILE is to be one of the items too. One in a folder `refused` is to be
 // refused by the number with which its name begins.
-#include "fastbloom_shared.hpp"
+#include "kinds.hpp"
 
 #include <cstdio>
 #include <cstdlib>
@@ -13,40 +14,18 @@
 #include <vector>
 
 using fastbloom::filter;
-using fastbloom::shared_filter;
-using fastbloom::status;
 
-static void check(bool holds, int line, const char *text) {
-    if (holds) return;
-    std::fprintf(stderr, "check: line %d: %s\n", line, text);
-    std::exit(1);
+template <typename Class> static constexpr bool only_moves() {
+    return !std::is_copy_constructible_v<Class> && !std::is_copy_assignable_v<Class> &&
+           std::is_nothrow_move_constructible_v<Class> && std::is_nothrow_move_assignable_v<Class>;
 }
-
-#define CHECK(x) check((x), __LINE__, #x)
-
-static_assert(!std::is_copy_constructible_v<filter> && !std::is_copy_assignable_v<filter>);
-static_assert(std::is_nothrow_move_constructible_v<filter>);
-static_assert(std::is_nothrow_move_assignable_v<filter>);
-static_assert(std::is_nothrow_move_constructible_v<shared_filter>);
-static_assert(std::is_nothrow_move_assignable_v<fastbloom::mapped_filter>);
-
-static fastbloom::key_bytes counting_key() {
-    fastbloom::key_bytes key{};
-    for (std::size_t i = 0; i < key.size(); i++) key[i] = static_cast<std::uint8_t>(i);
-    return key;
-}
-
-static std::string item(int number) { return "item" + std::to_string(number); }
-
-static filter empty(const fastbloom::key_bytes &key = {}) {
-    auto made = filter::make(1, 1000, 1000, key);
-    CHECK(static_cast<bool>(made) && made.status() == status::ok);
-    return *std::move(made);
-}
+static_assert(only_moves<whole::filter>() && only_moves<lines::filter>());
+static_assert(only_moves<whole::mapped>() && only_moves<lines::mapped>());
+static_assert(only_moves<whole::shared>() && only_moves<lines::shared>());
 
 // The filter that each language builds; what its calls return is printed.
 static filter items() {
-    filter seen = empty(), at_once = empty();
+    filter seen = empty<filter>(), at_once = empty<filter>();
     std::vector<std::uint64_t> hashes;
     for (int i = 0; i < 1000; i++) {
         seen.insert(item(i));
@@ -62,7 +41,7 @@ static filter items() {
     for (std::size_t i = 0; i < seen.num_words(); i++) {
         digest = (digest ^ seen.data()[i]) * 1099511628211u;
     }
-    const filter keyed = empty(counting_key());
+    const filter keyed = empty<filter>(counting_key());
     std::printf("words %zu hashes %u\n", seen.num_words(), unsigned{seen.num_hashes()});
     std::printf("hash %016llx\n", static_cast<unsigned long long>(keyed.hash(
                                       counting_key().data(), counting_key().size() - 1)));
@@ -74,7 +53,7 @@ static filter items() {
 // Bytes in pieces, parted anywhere, have the hash of the whole; a copy goes on by itself.
 static void pieces() {
     const std::string text = "crab, lobster, prawn, krill and barnacle";
-    const filter seen = empty(counting_key());
+    const filter seen = empty<filter>(counting_key());
     for (std::size_t at = 0; at <= text.size(); at++) {
         const std::string_view first{text.data(), at}, second{text.data() + at, text.size() - at};
         fastbloom::hasher pieces{counting_key()};
@@ -85,7 +64,7 @@ static void pieces() {
               seen.hash(text));
     }
     fastbloom::hasher none;
-    CHECK(none.update(std::string_view{}).update(nullptr, 0).finish() == empty().hash(""));
+    CHECK(none.update(std::string_view{}).update(nullptr, 0).finish() == empty<filter>().hash(""));
     // The value of Rust's own SipHash-1-3.
     const fastbloom::key_bytes key = counting_key();
     fastbloom::hasher outside{key};
@@ -94,8 +73,8 @@ static void pieces() {
 }
 
 // Many hashes at once, against the calls by one hash, and counts.
-static void many() {
-    filter seen = empty(), one_by_one = empty();
+template <typename Filter> static void many() {
+    Filter seen = empty<Filter>(), one_by_one = empty<Filter>();
     std::vector<std::uint64_t> hashes;
     for (int i = 0; i < 100; i++) hashes.push_back(seen.hash(item(i % 70)));
     CHECK(fastbloom::words_of_bits(0) == 0 && fastbloom::words_of_bits(64) == 1);
@@ -117,7 +96,7 @@ static void many() {
     CHECK(!seen.insert_hashes_tell_new(hashes.data(), 65, fresh, 1));
     CHECK(seen.contains_hashes(nullptr, 0, nullptr, 0));
     CHECK(seen.insert_hashes_tell_new(nullptr, 0, nullptr, 0));
-    CHECK(!filter{}.contains_hashes(hashes.data(), 1, found, 2));
+    CHECK(!Filter{}.contains_hashes(hashes.data(), 1, found, 2));
 #ifdef __cpp_lib_span
     CHECK(seen.contains_hashes(hashes, found) && fastbloom::bit_of(found, 99));
     CHECK(seen.insert_hashes_tell_new(hashes, fresh) && fresh[0] == 0 && fresh[1] == 0);
@@ -175,45 +154,51 @@ static void estimates() {
     CHECK(!filter{}.estimated_common(filter{}));
 }
 
-static void sets(const filter &seen) {
-    filter odd = empty(), even = empty(), other = empty(counting_key());
+template <typename Filter> static void sets() {
+    const Filter seen = thousand<Filter>();
+    Filter odd = empty<Filter>(), even = empty<Filter>(), other = empty<Filter>(counting_key());
     for (int i = 0; i < 1000; i++) (i % 2 == 1 ? odd : even).insert(item(i));
     CHECK(odd != even && even.unite(odd) && even == seen && even.unite(even) && even == seen);
     CHECK(even.intersect(odd) && even == odd && even.intersect(even) && even == odd);
     CHECK((even |= seen) && even == seen && (even &= odd) && even == odd && !(even |= other));
-    CHECK(!other.unite(odd) && !other.intersect(odd) && other != empty() && !even.unite(other));
+    CHECK(!other.unite(odd) && !other.intersect(odd) && other != empty<Filter>());
+    CHECK(!even.unite(other) && even.contains_hash(even.hash("item1")));
     even.clear();
-    CHECK(even == empty() && !even.contains("item1"));
+    CHECK(even == empty<Filter>() && even.count_ones() == 0 && !even.contains("item1"));
 }
 
 // The operators of filters that threads share.
-static void shared_sets() {
-    const shared_filter one(empty()), other(empty()), keyed(empty(counting_key()));
+template <typename Kind> static void shared_sets() {
+    using Filter = typename Kind::filter;
+    using Shared = typename Kind::shared;
+    const Shared one(empty<Filter>()), other(empty<Filter>());
+    const Shared keyed(empty<Filter>(counting_key()));
     CHECK(!one.insert("crab") && !other.insert("lobster"));
     CHECK((one |= other) && one.contains("crab") && one.contains("lobster"));
     CHECK((one &= other) && !one.contains("crab") && *one.load() == *other.load());
     CHECK(!(one |= keyed) && !(one &= keyed) && *one.load() == *other.load());
-    CHECK(!(shared_filter{} |= shared_filter{}) && !(shared_filter{} &= shared_filter{}));
+    CHECK(!(Shared{} |= Shared{}) && !(Shared{} &= Shared{}));
 }
 
 // Moves, clones, and filters with no words.
-static void owners(const filter &seen) {
+template <typename Filter> static void owners() {
+    const Filter seen = thousand<Filter>();
     auto cloned = seen.clone();
     CHECK(cloned && *cloned == seen && cloned->data() != seen.data());
-    filter moved = *std::move(cloned);
+    Filter moved = *std::move(cloned);
     const std::uint64_t *words = moved.data();
-    filter last = std::move(moved);
+    Filter last = std::move(moved);
     CHECK(last == seen && last.data() == words);
-    filter none, &gone = moved; // what was moved from has no words
-    for (filter *bare : {&none, &gone}) {
-        CHECK(bare->num_words() == 0 && bare->num_bits() == 0 && *bare == filter{});
+    Filter none, &gone = moved; // what was moved from has no words
+    for (Filter *bare : {&none, &gone}) {
+        CHECK(bare->num_words() == 0 && bare->num_bits() == 0 && *bare == Filter{});
         CHECK(!bare->insert("crab") && !bare->contains("crab") && !bare->insert_hash(1));
         CHECK(!bare->unite(*bare) && !bare->unite(seen) && !bare->intersect(none));
         CHECK(!bare->clone() && bare->head().status() == status::empty_words);
         bare->insert_hashes(words, 1);
         bare->clear();
     }
-    filter &same = last;
+    Filter &same = last;
     last = std::move(same);
     CHECK(last == seen);
     gone = std::move(last);
@@ -223,9 +208,9 @@ static void owners(const filter &seen) {
     gone.insert_hashes(nullptr, 0);
 }
 
-static void spans() {
+template <typename Filter> static void spans() {
 #ifdef __cpp_lib_span
-    filter seen = empty(), at_once = empty();
+    Filter seen = empty<Filter>(), at_once = empty<Filter>();
     const std::vector<std::byte> crab{std::byte{'c'}, std::byte{'r'}, std::byte{'a'},
                                       std::byte{'b'}};
     CHECK(!seen.insert(crab) && seen.contains(crab) && seen.contains("crab"));
@@ -239,11 +224,10 @@ static void spans() {
 }
 
 // Ranges of items, and items that lie one behind the other.
-static void ranges() {
+template <typename Filter> static void ranges() {
     std::vector<std::string> names;
     for (int i = 0; i < 1000; i++) names.push_back(item(i));
-    filter seen = empty(), at_once = empty();
-    for (const std::string &name : names) seen.insert(name);
+    Filter seen = thousand<Filter>(), at_once = empty<Filter>();
     at_once.insert_range(names);
     CHECK(at_once == seen);
     at_once.insert_range(std::vector<const char *>{"item1", "item2"});
@@ -260,55 +244,80 @@ static void ranges() {
 }
 
 // Files are saved, loaded, mapped and shared.
-static void files(const std::string &folder, const filter &seen) {
+template <typename Kind> static void files(const std::string &folder) {
+    using Filter = typename Kind::filter;
+    using Mapped = typename Kind::mapped;
+    using Shared = typename Kind::shared;
+    const Filter seen = thousand<Filter>();
     const std::string path = folder + "/kept.bloom";
-    CHECK(seen.save(path.c_str()) == status::ok);
-    const auto loaded = filter::load(path.c_str());
+    CHECK(seen.save(path.c_str()) == status::ok && read_whole(path) == bytes_of(seen));
+    const auto loaded = Filter::load(path.c_str());
     CHECK(loaded && *loaded == seen);
-    auto mapped = fastbloom::mapped_filter::map(path.c_str());
+    auto mapped = Mapped::map(path.c_str());
     CHECK(mapped && mapped->contains("item1") && !mapped->contains("crab, lobster"));
     CHECK(mapped->num_words() == seen.num_words() && mapped->key() == seen.key());
-    const fastbloom::mapped_filter moved = *std::move(mapped);
-    CHECK(moved.contains_hash(seen.hash("item2")) && *moved.clone() == seen);
+    const Mapped moved = *std::move(mapped);
+    const std::uint64_t hash = seen.hash("item2");
+    std::uint64_t found = 0;
+    CHECK(moved.contains_hash(hash) && moved.contains_hashes(&hash, 1, &found, 1) && found == 1);
+    CHECK(*moved.clone() == seen);
     CHECK(mapped->num_words() == 0 && !mapped->contains("item1") && !mapped->clone());
     // What is moved onto another filter leaves none behind.
-    auto one = fastbloom::mapped_filter::map(path.c_str());
-    auto other = fastbloom::mapped_filter::map(path.c_str());
+    auto one = Mapped::map(path.c_str()), other = Mapped::map(path.c_str());
     CHECK(one && other);
     *one = *std::move(other);
     CHECK(one->contains("item1") && other->num_words() == 0 && !other->contains("item1"));
-    fastbloom::mapped_filter &same = *one;
+    Mapped &same = *one;
     *one = std::move(same);
     CHECK(one->contains("item1"));
 #ifdef __cpp_lib_span
     CHECK(moved.words().data() == moved.data() && moved.words().size() == seen.num_words());
     CHECK(mapped->words().empty());
     const std::vector<std::uint64_t> hashes{seen.hash("item2"), seen.hash("crab, lobster")};
-    std::vector<std::uint64_t> found{~std::uint64_t{0}};
-    CHECK(moved.contains_hashes(hashes, found) && found[0] == 1);
+    std::vector<std::uint64_t> bits{~std::uint64_t{0}};
+    CHECK(moved.contains_hashes(hashes, bits) && bits[0] == 1);
 #endif
-    CHECK(filter::load(path.c_str(), 1).status() == status::too_many_hashes);
+    // As many words and hashes as are allowed, and one more.
     const std::size_t words = seen.num_words();
-    CHECK(filter::load(path.c_str(), 64, words) &&
-          fastbloom::mapped_filter::map(path.c_str(), 64, words));
-    CHECK(filter::load(path.c_str(), 64, words - 1).status() == status::too_many_words);
-    CHECK(fastbloom::mapped_filter::map(path.c_str(), 64, words - 1).status() ==
-          status::too_many_words);
-    CHECK(shared_filter::map(path.c_str(), 64, words - 1).status() == status::too_many_words);
-    CHECK(filter::load(folder.c_str()).status() == status::input);
+    const std::vector<char> bytes = bytes_of(seen);
+    for (const std::size_t most : {words, words - 1}) {
+        const status why = most == words ? status::ok : status::too_many_words;
+        CHECK(Filter::from_bytes(bytes.data(), bytes.size(), 64, most).status() == why);
+        CHECK(Filter::load(path.c_str(), 64, most).status() == why);
+        CHECK(Mapped::map(path.c_str(), 64, most).status() == why);
+    }
+    CHECK(Shared::map(path.c_str(), 64, words - 1).status() == status::too_many_words);
+    CHECK(Filter::load(path.c_str(), 8).status() == status::too_many_hashes);
+    CHECK(Filter::load(folder.c_str()).status() == status::input);
     CHECK(seen.save(folder.c_str()) == status::output);
-    CHECK(filter{}.save(path.c_str()) == status::empty_words);
-    CHECK(shared_filter::map(path.c_str()).status() == status::sealed);
+    CHECK(Filter{}.save(path.c_str()) == status::empty_words);
+    CHECK(Shared::map(path.c_str()).status() == status::sealed);
     CHECK(seen.save(path.c_str(), false) == status::ok);
     {
-        auto shared = shared_filter::map(path.c_str());
+        auto shared = Shared::map(path.c_str());
         CHECK(shared && shared->contains("item1") && !shared->insert("crab, lobster"));
-        const shared_filter owner = *std::move(shared);
+        const Shared owner = *std::move(shared);
         CHECK(owner.contains("crab, lobster") && shared->num_words() == 0);
         owner.insert_range(std::vector<std::string>{"prawn", "krill"});
     }
-    const auto grown = filter::load(path.c_str());
+    const auto grown = Filter::load(path.c_str());
     CHECK(grown && grown->contains("crab, lobster") && grown->contains("krill") && *grown != seen);
+    CHECK(std::remove(path.c_str()) == 0);
+    CHECK(Filter::load(path.c_str()).status() == status::input);
+}
+
+// Each kind refuses the file of the other.
+template <typename Kind, typename Other> static void other_files(const std::string &folder) {
+    const std::string path = folder + "/other.bloom";
+    const auto seen = empty<typename Kind::filter>();
+    for (const bool sealed : {true, false}) {
+        CHECK(seen.save(path.c_str(), sealed) == status::ok);
+        CHECK(Other::filter::load(path.c_str()).status() == Kind::refused);
+        CHECK(Other::mapped::map(path.c_str()).status() == Kind::refused);
+        CHECK(Other::shared::map(path.c_str()).status() == Kind::refused);
+    }
+    const std::vector<char> bytes = bytes_of(seen);
+    CHECK(Other::filter::from_bytes(bytes.data(), bytes.size()).status() == Kind::refused);
     CHECK(std::remove(path.c_str()) == 0);
 }
 
@@ -330,24 +339,9 @@ static void refused() {
     CHECK(filter::from_bytes(nullptr, 0).status() == status::not_a_filter);
 }
 
-static std::vector<char> bytes_of(const filter &seen, bool sealed = true) {
-    const auto head = seen.head(sealed);
-    CHECK(static_cast<bool>(head));
-    std::vector<char> bytes(head->begin(), head->end());
-    const char *words = reinterpret_cast<const char *>(seen.data());
-    bytes.insert(bytes.end(), words, words + 8 * seen.num_words());
-    return bytes;
-}
-
 // The file in hexadecimal digits is written and read.
 static void worked(const char *path) {
-    std::vector<char> wanted;
-    std::FILE *file = std::fopen(path, "r");
-    CHECK(file != nullptr);
-    for (unsigned byte; std::fscanf(file, "%2x", &byte) == 1;) {
-        wanted.push_back(static_cast<char>(byte));
-    }
-    std::fclose(file);
+    const std::vector<char> wanted = read_digits(path);
     auto made = filter::with_shape(1, 3, counting_key());
     CHECK(made && !made->insert("crab") && !made->insert("lobster"));
     CHECK(wanted.size() == 72 && bytes_of(*made) == wanted);
@@ -370,11 +364,7 @@ static void limits() {
 }
 
 static void read_file(const std::string &path, const filter &seen) {
-    std::vector<char> bytes;
-    std::FILE *file = std::fopen(path.c_str(), "rb");
-    CHECK(file != nullptr);
-    for (int byte; (byte = std::fgetc(file)) != EOF;) bytes.push_back(static_cast<char>(byte));
-    std::fclose(file);
+    const std::vector<char> bytes = read_whole(path);
     const std::size_t at = path.find("refused/");
     const int wanted = at == std::string::npos ? 0 : std::atoi(path.c_str() + at + 8);
     const auto read = filter::from_bytes(bytes.data(), bytes.size());
@@ -383,26 +373,31 @@ static void read_file(const std::string &path, const filter &seen) {
     std::exit(1);
 }
 
+// What both kinds do alike.
+template <typename Kind, typename Other> static void each(const std::string &folder) {
+    using Filter = typename Kind::filter;
+    many<Filter>();
+    sets<Filter>();
+    shared_sets<Kind>();
+    owners<Filter>();
+    spans<Filter>();
+    ranges<Filter>();
+    files<Kind>(folder);
+    other_files<Kind, Other>(folder);
+}
+
 int main(int argc, char **argv) {
     if (argc < 3) return 2;
     const filter seen = items();
     pieces();
-    many();
     counts();
     estimates();
-    sets(seen);
-    shared_sets();
-    owners(seen);
-    spans();
-    ranges();
-    files(argv[2], seen);
+    each<whole, lines>(argv[2]);
+    each<lines, whole>(argv[2]);
     refused();
     limits();
     worked(argv[1]);
-    const std::vector<char> bytes = bytes_of(seen);
-    std::FILE *file = std::fopen((std::string{argv[2]} + "/cpp.bloom").c_str(), "wb");
-    CHECK(file != nullptr && std::fwrite(bytes.data(), bytes.size(), 1, file) == 1);
-    CHECK(std::fclose(file) == 0);
+    write_whole(std::string(argv[2]) + "/cpp.bloom", bytes_of(seen));
     for (int i = 3; i < argc; i++) read_file(argv[i], seen);
     return 0;
 }

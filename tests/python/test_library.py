@@ -114,7 +114,7 @@ def test_no_function_of_the_headers_is_static(tmp_path):
             *compiler,
             "-std=c++17",
             "-O0",
-            f"-I{TOP}/include",
+            f"-I{LIBRARY}/include",
             "-x",
             "c++",
             "-c",

@@ -1,7 +1,4 @@
-mod BlockedPlanFacts
 mod BlockedPlanLemmas
-mod BlockedSharedFacts
-mod EstimateFacts
 mod Fields
 mod FileFacts
 mod ItemFacts
@@ -9,11 +6,9 @@ mod ItemLemmas
 mod LineAloneLemmas
 mod NoWordLemmas
 mod PassedFacts
-mod PieceFacts
 mod PlanFacts
-mod RateFacts
+mod ReportFacts
 mod SameBitsLemmas
 mod SharedFacts
 mod SharedLemmas
-mod SharedRateFacts
 mod Steps

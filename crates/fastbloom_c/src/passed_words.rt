@@ -23,7 +23,8 @@ impl Model for RawWords {
     ghost also_shares = { λ w _ κ. said (words_lie w.at w.len) κ };
 }
 
-/// The same words, as C passes them: a pointer and a number.
+/// The same words, as C passes them: a pointer and a number. They are a type of their own, since the
+/// checker refuses an exported function whose words can be read through a `&`.
 #[repr(C)]
 #[derive(Drop)]
 pub struct PassedWords {

@@ -40,46 +40,20 @@ fn words_of(told: &[bool]) -> impl Iterator<Item = u64> + '_ {
     told.chunks(64).map(word_of)
 }
 
-/// All results of a session and then all words, folded into one number.
-fn number_of(session: u64) -> u64 {
-    let lines = match session % 50 {
-        49 => 16384 + session,
-        _ => 1 + session % 7,
-    };
-    let mut seen = BlockedBloomFilter::with_num_bits(512 * lines as usize)
-        .expect("lines")
-        .hashes(1 + (session % 13) as u32);
-    let mut told: Vec<u64> = (0..20)
-        .map(|index| seen.insert_hash(drawn(session, index)) as u64)
-        .collect();
-    let several: Vec<_> = (0..130).map(|i| drawn(session, 7 * i % 95)).collect();
-    told.extend(words_of(&seen.insert_hashes_tell_new(&several)));
-    seen.insert_hashes(&row(session, 200..350));
-    told.extend(words_of(&seen.contains_hashes(&row(session, 300..450))));
-    told.extend((440..460).map(|index| seen.contains_hash(drawn(session, index)) as u64));
-    told.extend(seen.iter());
-    folded(told)
-}
-
-/// As `number_of`, by a filter that threads share.
-fn shared_number_of(session: u64) -> u64 {
-    let lines = match session % 50 {
-        49 => 16384 + session,
-        _ => 1 + session % 7,
-    };
-    let words: Vec<_> = (0..8 * lines).map(|_| AtomicU64::new(0)).collect();
-    let hashes = 1 + (session % 13) as u32;
-    let seen = AtomicBlockedBloomFilter::from_words(words, hashes).expect("lines");
-    let mut told: Vec<u64> = (0..20)
-        .map(|index| seen.insert_hash(drawn(session, index)) as u64)
-        .collect();
-    let several: Vec<_> = (0..130).map(|i| drawn(session, 7 * i % 95)).collect();
-    told.extend(words_of(&seen.insert_hashes_tell_new(&several)));
-    seen.insert_hashes(&row(session, 200..350));
-    told.extend(words_of(&seen.contains_hashes(&row(session, 300..450))));
-    told.extend((440..460).map(|index| seen.contains_hash(drawn(session, index)) as u64));
-    told.extend(seen.iter());
-    folded(told)
+/// All results of a session and then all words of a filter, folded into one number.
+macro_rules! number_of {
+    ($session:ident, $seen:ident) => {{
+        let mut told: Vec<u64> = (0..20)
+            .map(|index| $seen.insert_hash(drawn($session, index)) as u64)
+            .collect();
+        let several: Vec<_> = (0..130).map(|i| drawn($session, 7 * i % 95)).collect();
+        told.extend(words_of(&$seen.insert_hashes_tell_new(&several)));
+        $seen.insert_hashes(&row($session, 200..350));
+        told.extend(words_of(&$seen.contains_hashes(&row($session, 300..450))));
+        told.extend((440..460).map(|index| $seen.contains_hash(drawn($session, index)) as u64));
+        told.extend($seen.iter());
+        folded(told)
+    }};
 }
 
 fn folded(told: Vec<u64>) -> u64 {
@@ -102,8 +76,17 @@ fn thousand(items: &[&str]) -> BlockedBloomFilter {
 #[test]
 fn drawn_filters_are_those_of_the_model() {
     for (session, wanted) in WANTED {
-        assert_eq!(number_of(session), wanted, "session {session}");
-        assert_eq!(shared_number_of(session), wanted, "session {session}");
+        let lines = match session % 50 {
+            49 => 16384 + session as usize,
+            _ => 1 + session as usize % 7,
+        };
+        let hashes = 1 + (session % 13) as u32;
+        let bits = BlockedBloomFilter::with_num_bits(512 * lines).expect("lines");
+        let mut plain = bits.hashes(hashes);
+        let words: Vec<_> = (0..8 * lines).map(|_| AtomicU64::new(0)).collect();
+        let shared = AtomicBlockedBloomFilter::from_words(words, hashes).expect("lines");
+        let told = [number_of!(session, plain), number_of!(session, shared)];
+        assert_eq!(told, [wanted; 2], "session {session}");
     }
 }
 
@@ -318,4 +301,30 @@ fn shared_lines_tell_what_plain_ones_do() {
     assert_eq!(plain.jaccard(&plain).map(|it| it.high()), Ok(1 << 63));
     let other = BlockedBloomFilter::with_num_bits(512).expect("room");
     assert_eq!(plain.jaccard(&other.hashes(7)), Err(Error::OtherShape));
+}
+
+/// The builder by bits and items has as many hashes as the library's plan of these bits.
+#[test]
+fn the_number_of_hashes_is_that_of_plans() {
+    let with = |bits, items| {
+        let bits = BlockedBloomFilter::with_num_bits(bits).expect("bits");
+        bits.expected_items(items)
+    };
+    for den in [2, 3, 5, 10, 30, 100, 300, 1000, 10_000, 100_000, 1 << 40] {
+        for items in [0, 1, 7, 100, 1000, 12_345] {
+            let rate = Rate::new(1, den).expect("a rate");
+            let planned = BlockedBloomFilter::with_false_pos(rate)
+                .expected_items(items)
+                .expect("room");
+            assert_eq!(with(planned.num_bits(), items), planned, "1/{den}, {items}");
+        }
+    }
+    // One hash more suits above each of these hundredths of a bit for each item.
+    for (items, hashes) in [(25_600, 1), (24_616, 1), (24_615, 2), (1, 16), (0, 16)] {
+        assert_eq!(with(51_200, items).num_hashes(), hashes, "{items}");
+    }
+    let made = BlockedBloomFilter::with_num_bits(1024).expect("bits");
+    let made = made.seed(&5).items(["crab", "eel"]);
+    assert!(made.contains("crab") && made.contains("eel") && made.num_hashes() == 16);
+    assert_eq!(u128::from_be_bytes(*made.key()), 5);
 }

@@ -1,17 +1,20 @@
-//! Files that are written, read and refused. The form is that of docs/FILE.md.
+//! Files that are written, read and refused, of each kind. The form is that of docs/FILE.md.
 
-use fastbloom_c::{BlockedBloomFilter, BloomFilter, Error, Limits};
+mod common;
+
+use common::{bytes_of, Place};
+use fastbloom_c::{
+    AtomicBlockedBloomFilter, AtomicBloomFilter, BlockedBloomFilter, BloomFilter, Error, Limits,
+    MappedBlockedFilter, MappedFilter,
+};
 use std::error::Error as _;
+use std::fs;
 use std::io::{self, ErrorKind, Read};
 
-/// The file of a model, which docs/FILE.md explains: one word, three hashes, and the key bytes 0 to
-/// 15, of `crab` and `lobster`.
-fn worked() -> Vec<u8> {
-    let lines = include_str!("../../../examples/file.hex").lines();
-    lines
-        .flat_map(|line| u64::from_str_radix(line, 16).expect("digits").to_be_bytes())
-        .collect()
-}
+/// The files of a model, which docs/FILE.md explains: one word or one line, three hashes, and the
+/// key bytes 0 to 15, of `crab` and `lobster`.
+const WHOLE: &str = include_str!("../../../examples/file.hex");
+const LINES: &str = include_str!("../../../examples/blocked-file.hex");
 
 fn changed(file: &[u8], place: usize, byte: u8) -> Vec<u8> {
     let mut file = file.to_vec();
@@ -36,70 +39,26 @@ impl Read for Slow<'_> {
     }
 }
 
-/// What each way to read returns, where all agree.
-fn read(file: &[u8]) -> Result<BloomFilter, Error> {
-    let answer = BloomFilter::from_bytes(file);
-    assert_eq!(BloomFilter::read_file(&mut &*file), answer);
-    let mut slow = Slow {
-        bytes: file,
-        interrupted: false,
-    };
-    assert_eq!(BloomFilter::read_file(&mut slow), answer);
-    answer
-}
+/// Fails where the bytes are at their end.
+struct Broken<'a>(&'a [u8]);
 
-#[test]
-fn a_worked_file_is_written_and_read() {
-    let key = std::array::from_fn(|place| place as u8);
-    let bits = BloomFilter::from_vec(vec![0]).expect("a word");
-    let mut made = bits.seed(&u128::from_be_bytes(key)).hashes(3);
-    assert!(!made.insert("crab") && !made.insert("lobster"));
-    assert_eq!(made.as_slice(), [0x1080_0080_4000_1400]);
-    assert_eq!(made.to_bytes(), worked());
-    let mut written = Vec::new();
-    made.write_file(&mut written).expect("room");
-    assert_eq!(written, worked());
-    assert_eq!(read(&worked()), Ok(made));
-}
-
-#[test]
-fn a_file_without_a_seal() {
-    let made = read(&worked()).expect("a filter");
-    let mut plain = worked();
-    plain[40..48].fill(0);
-    assert_eq!(made.head(false), plain[..64]);
-    assert_eq!(made.head(true), worked()[..64]);
-    assert_eq!(read(&plain), Ok(made));
-}
-
-#[test]
-fn files_of_many_words() {
-    for num_words in [1, 2, 1023, 1024, 1025, 3000] {
-        let mut made = BloomFilter::with_num_bits(64 * num_words)
-            .expect("bits")
-            .hashes(7);
-        made.insert_hashes(
-            &(1..500)
-                .map(|n: u64| n.wrapping_mul(n << 50))
-                .collect::<Vec<_>>(),
-        );
-        let file = made.to_bytes();
-        let mut written = Vec::new();
-        made.write_file(&mut written).expect("room");
-        assert_eq!(written, file);
-        assert_eq!(file.len(), 64 + 8 * num_words);
-        assert_eq!(read(&file), Ok(made));
-        assert_eq!(read(&file[..file.len() - 1]), Err(Error::Cut));
-        assert_eq!(read(&[file, vec![0]].concat()), Err(Error::TooLong));
+impl Read for Broken<'_> {
+    fn read(&mut self, buffer: &mut [u8]) -> io::Result<usize> {
+        match self.0.read(buffer)? {
+            0 => Err(ErrorKind::ConnectionReset.into()),
+            count => Ok(count),
+        }
     }
 }
 
+type Rows = Vec<(Error, Vec<Vec<u8>>)>;
+
 /// Files that differ from a good one, by the refusal that a reader tells.
-fn refused() -> Vec<(Error, Vec<Vec<u8>>)> {
-    let file = worked();
-    let change = |place, byte| changed(&file, place, byte);
-    let cut = |place, byte, len| changed(&file, place, byte)[..len].to_vec();
-    vec![
+fn refused(file: &[u8]) -> Rows {
+    let change = |place, byte| changed(file, place, byte);
+    let cut = |place, byte, len| changed(file, place, byte)[..len].to_vec();
+    let last = file.len() - 1;
+    let rows = [
         (Error::EmptyWords, vec![change(16, 0), cut(16, 0, 24)]),
         (Error::TooManyWords, vec![change(23, 4), cut(23, 4, 24)]),
         (
@@ -127,18 +86,15 @@ fn refused() -> Vec<(Error, Vec<Vec<u8>>)> {
                 cut(16, 0, 23),
                 file[..63].to_vec(),
                 file[..64].to_vec(),
-                file[..file.len() - 1].to_vec(),
+                file[..last].to_vec(),
                 cut(48, 1, 60),
-                cut(48, 1, 71),
+                cut(48, 1, last),
                 change(23, 3),
             ],
         ),
         (
             Error::TooLong,
-            vec![
-                [&file[..], &[0]].concat(),
-                [&change(63, 1)[..], &[0]].concat(),
-            ],
+            vec![[file, &[0]].concat(), [&change(63, 1)[..], &[0]].concat()],
         ),
         (
             Error::Reserved,
@@ -148,61 +104,220 @@ fn refused() -> Vec<(Error, Vec<Vec<u8>>)> {
                 changed(&change(55, 1), 40, 0),
             ],
         ),
-        (Error::Blocked, vec![change(48, 1)]),
+        (Error::TooManyHashes, vec![change(8, 65)]),
         (
             Error::Seal,
-            [8, 24, 39, 40, 64, 71]
+            [8, 24, 39, 40, 64, last]
                 .map(|place| change(place, 1))
                 .to_vec(),
         ),
+    ];
+    rows.into()
+}
+
+/// Those that one kind alone refuses so.
+fn refused_whole(file: &[u8]) -> Rows {
+    vec![(Error::Blocked, vec![changed(file, 48, 1)])]
+}
+
+fn refused_lines(file: &[u8]) -> Rows {
+    let (whole, part) = (changed(file, 48, 0), changed(file, 16, 7));
+    let cut = vec![whole[..127].to_vec(), part[..119].to_vec()];
+    let long = vec![part.clone(), [&whole[..], &[0]].concat()];
+    let other = changed(&part, 48, 0)[..120].to_vec();
+    vec![
+        (Error::Cut, cut),
+        (Error::TooLong, long),
+        (Error::Reserved, vec![changed(file, 49, 1)]),
+        (Error::NotBlocked, vec![whole, other]),
+        (Error::PartOfALine, vec![part[..120].to_vec()]),
     ]
 }
 
-#[test]
-fn files_are_refused_each_for_its_reason() {
-    let mut count = 0;
-    for (error, files) in refused() {
-        for file in files {
-            assert_eq!(read(&file), Err(error.clone()), "{file:x?}");
-            count += 1;
+/// The tests of one kind, whose least filter has so many bits.
+macro_rules! tests_of_kind {
+    ($kind:ident, $filter:ident, $mapped:ident, $file:ident, $bits:literal, $refused:ident) => {
+        mod $kind {
+            use super::*;
+
+            fn worked() -> Vec<u8> {
+                bytes_of($file)
+            }
+
+            fn empty(bits: usize, hashes: u32) -> $filter {
+                $filter::with_num_bits(bits).expect("bits").hashes(hashes)
+            }
+
+            /// What each way to read returns, where all agree.
+            pub fn read(place: &Place, file: &[u8]) -> Result<$filter, Error> {
+                let answer = $filter::from_bytes(file);
+                assert_eq!($filter::read_file(&mut &*file), answer);
+                let mut slow = Slow {
+                    bytes: file,
+                    interrupted: false,
+                };
+                assert_eq!($filter::read_file(&mut slow), answer);
+                // (as much at once as comes, which is no whole line)
+                let (first, rest) = file.split_at(file.len().min(101));
+                assert_eq!($filter::read_file(&mut first.chain(rest)), answer);
+                fs::write(&place.0, file).expect("room");
+                assert_eq!($filter::load(&place.0), answer);
+                // SAFETY: no other test has this file.
+                let mapped = unsafe { $mapped::open(&place.0) };
+                assert_eq!(mapped.and_then(|mapped| mapped.to_filter()), answer);
+                answer
+            }
+
+            fn place(name: &str) -> Place {
+                Place::new(&format!("{}.{name}", stringify!($kind)))
+            }
+
+            #[test]
+            fn a_worked_file_is_written_and_read() {
+                let place = place("worked");
+                let key = std::array::from_fn(|place| place as u8);
+                let bits = $filter::with_num_bits($bits).expect("bits");
+                let mut made = bits.seed(&u128::from_be_bytes(key)).hashes(3);
+                assert!(!made.insert("crab") && !made.insert("lobster"));
+                assert_eq!(made.to_bytes(), worked());
+                assert_eq!(made.head(true), worked()[..64]);
+                let mut written = Vec::new();
+                made.write_file(&mut written).expect("room");
+                assert_eq!(written, worked());
+                let again = read(&place, &worked()).expect("a filter");
+                assert!(again.contains("crab") && again.contains("lobster"));
+                assert!(!again.contains("whale") && again == made);
+                fs::remove_file(&place.0).expect("a file");
+                again.save(&place.0).expect("room");
+                assert_eq!(fs::read(&place.0).expect("a file"), worked());
+            }
+
+            #[test]
+            fn a_file_without_a_seal() {
+                let place = place("unsealed");
+                let made = read(&place, &worked()).expect("a filter");
+                let mut plain = worked();
+                plain[40..48].fill(0);
+                assert_eq!(made.head(false), plain[..64]);
+                assert_eq!(read(&place, &plain), Ok(made));
+            }
+
+            #[test]
+            fn files_of_many_words() {
+                let place = place("many");
+                for count in [1, 2, 127, 128, 129, 300, 1023, 1024, 1025, 3000] {
+                    let mut made = empty($bits * count, 7);
+                    made.extend((0..500).map(|item: u32| item.to_string()));
+                    let file = made.to_bytes();
+                    let mut written = Vec::new();
+                    made.write_file(&mut written).expect("room");
+                    assert_eq!(written, file);
+                    assert_eq!(file.len(), 64 + $bits / 8 * count);
+                    assert_eq!(read(&place, &file), Ok(made));
+                    assert_eq!(read(&place, &file[..file.len() - 1]), Err(Error::Cut));
+                    assert_eq!(read(&place, &[file, vec![0]].concat()), Err(Error::TooLong));
+                }
+            }
+
+            #[test]
+            fn files_are_refused_each_for_its_reason() {
+                let place = place("refused");
+                let mut count = 0;
+                for (error, files) in [refused(&worked()), $refused(&worked())].concat() {
+                    for file in files {
+                        assert_eq!(read(&place, &file), Err(error.clone()), "{file:x?}");
+                        count += 1;
+                    }
+                }
+                assert!(count > 34);
+            }
+
+            #[test]
+            fn a_file_with_many_hashes_is_refused() {
+                let place = place("hashes");
+                let with = |num_hashes: u32| {
+                    let file = empty($bits, num_hashes);
+                    (file.to_bytes(), Ok(file))
+                };
+                let many_hashes = Err(Error::TooManyHashes);
+                let (few, few_read) = with(64);
+                let (more, more_read) = with(65);
+                let (many, many_read) = with(u32::MAX);
+                assert_eq!(read(&place, &few), few_read);
+                assert_eq!(read(&place, &more), many_hashes);
+                assert_eq!(read(&place, &many), many_hashes);
+                assert_eq!($filter::from_bytes_with_hashes(&few, 63), many_hashes);
+                assert_eq!($filter::from_bytes_with_hashes(&more, 65), more_read);
+                assert_eq!($filter::from_bytes_with_hashes(&many, u32::MAX), many_read);
+                // What is told before it, and after it.
+                assert_eq!(read(&place, &changed(&many, 50, 1)), Err(Error::Reserved));
+                assert_eq!(read(&place, &changed(&many, 64, 1)), many_hashes);
+            }
+
+            #[test]
+            fn what_cannot_be_read_or_written_is_reported() {
+                let (file, place) = (worked(), place("told"));
+                for there in [0, 5, 63, 64, file.len() - 1, file.len()] {
+                    let answer = $filter::read_file(&mut Broken(&file[..there]));
+                    let wanted = Error::from(io::Error::from(ErrorKind::ConnectionReset));
+                    assert_eq!(answer, Err(wanted), "{there}");
+                }
+                let none = $filter::load(&place.0).expect_err("no file");
+                assert!(matches!(none, Error::Input(error) if error.kind() == ErrorKind::NotFound));
+                let made = $filter::from_bytes(&file).expect("a filter");
+                assert!(made.save(place.0.join("seen.bloom")).is_err());
+                for room in [0, 63, 64, file.len() - 1] {
+                    let mut written = vec![0; room];
+                    let error = made.write_file(&mut &mut written[..]).expect_err("no room");
+                    assert_eq!(error.kind(), ErrorKind::WriteZero);
+                }
+            }
         }
-    }
-    assert_eq!(count, 34);
+    };
 }
 
+tests_of_kind!(whole, BloomFilter, MappedFilter, WHOLE, 64, refused_whole);
+tests_of_kind!(
+    lines,
+    BlockedBloomFilter,
+    MappedBlockedFilter,
+    LINES,
+    512,
+    refused_lines
+);
+
 #[test]
-fn a_file_with_many_hashes_is_refused() {
-    let with = |num_hashes: u32| {
-        let file = BloomFilter::with_num_bits(64)
-            .expect("bits")
-            .hashes(num_hashes);
-        (file.to_bytes(), Ok(file))
-    };
-    let (few, few_read) = with(64);
-    let (more, more_read) = with(65);
-    let (many, many_read) = with(u32::MAX);
-    assert_eq!(read(&few), few_read);
-    assert_eq!(read(&more), Err(Error::TooManyHashes));
-    assert_eq!(read(&many), Err(Error::TooManyHashes));
+fn each_kind_refuses_the_files_of_the_other() {
+    let place = Place::new("other");
+    let whole = BloomFilter::with_num_bits(1024).expect("bits").hashes(4);
     assert_eq!(
-        BloomFilter::from_bytes_with_hashes(&few, 63),
-        Err(Error::TooManyHashes)
+        lines::read(&place, &whole.to_bytes()),
+        Err(Error::NotBlocked)
     );
-    assert_eq!(BloomFilter::from_bytes_with_hashes(&more, 65), more_read);
-    assert_eq!(
-        BloomFilter::from_bytes_with_hashes(&many, u32::MAX),
-        many_read
-    );
-    // What is told before it, and after it.
-    assert_eq!(read(&changed(&many, 50, 1)), Err(Error::Reserved));
-    assert_eq!(read(&changed(&many, 64, 1)), Err(Error::TooManyHashes));
+    // SAFETY: no other test has this file; so it is in each of these blocks.
+    let shared = unsafe { AtomicBlockedBloomFilter::map(&place.0) };
+    assert_eq!(shared.err(), Some(Error::NotBlocked));
+    let bits = BlockedBloomFilter::with_num_bits(1 << 16).expect("bits");
+    let lines = bits.hashes(4);
+    lines.save(&place.0).expect("room");
+    let blocked = Some(Error::Blocked);
+    assert_eq!(BloomFilter::from_bytes(&lines.to_bytes()).err(), blocked);
+    assert_eq!(BloomFilter::load(&place.0).err(), blocked);
+    // SAFETY: as above.
+    assert_eq!(unsafe { MappedFilter::open(&place.0) }.err(), blocked);
+    // SAFETY: as above.
+    let shared = unsafe { AtomicBloomFilter::map(&place.0) };
+    assert_eq!(shared.err(), blocked);
+    // SAFETY: as above.
+    let sealed = unsafe { AtomicBlockedBloomFilter::map(&place.0) };
+    assert_eq!(sealed.err(), Some(Error::Sealed));
 }
 
 /// Words come without end behind these heads. Each is refused before a word is read.
 #[test]
 fn what_is_beyond_a_limit_is_refused_by_the_head() {
     let head = |hashes, words: u64, layout| {
-        let mut head = changed(&worked()[..64], 8, hashes);
+        let mut head = changed(&bytes_of(WHOLE)[..64], 8, hashes);
         head[16..24].copy_from_slice(&words.to_le_bytes());
         changed(&head, 48, layout)
     };
@@ -226,28 +341,6 @@ fn what_is_beyond_a_limit_is_refused_by_the_head() {
     }
     let usual = refused(&head(65, many, 0), &Limits::default());
     assert_eq!(usual, [hashes, Error::NotBlocked]);
-}
-
-/// Fails where the bytes are at their end.
-struct Broken<'a>(&'a [u8]);
-
-impl Read for Broken<'_> {
-    fn read(&mut self, buffer: &mut [u8]) -> io::Result<usize> {
-        match self.0.read(buffer)? {
-            0 => Err(ErrorKind::ConnectionReset.into()),
-            count => Ok(count),
-        }
-    }
-}
-
-#[test]
-fn a_read_that_fails_is_reported_wherever_it_is() {
-    let file = worked();
-    for there in [0, 5, 63, 64, 71, 72] {
-        let answer = BloomFilter::read_file(&mut Broken(&file[..there]));
-        let wanted = Error::from(io::Error::from(ErrorKind::ConnectionReset));
-        assert_eq!(answer, Err(wanted), "{there}");
-    }
 }
 
 /// A read that fails by an error with a cause.
@@ -284,16 +377,4 @@ fn the_cause_of_a_read_that_failed_is_kept() {
     assert_eq!(error, Error::from(io::Error::from(ErrorKind::TimedOut)));
     assert_ne!(error, Error::from(io::Error::from(ErrorKind::BrokenPipe)));
     assert_ne!(error, Error::Seal);
-}
-
-#[test]
-fn a_write_that_fails_is_reported() {
-    let made = read(&worked()).expect("a filter");
-    for room in [0, 63, 64, 71] {
-        let mut file = [0; 71];
-        let error = made
-            .write_file(&mut &mut file[..room])
-            .expect_err("no room");
-        assert_eq!(error.kind(), ErrorKind::WriteZero);
-    }
 }
