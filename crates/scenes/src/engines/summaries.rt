@@ -113,7 +113,8 @@ fn is_reported(alloc: Global, ended: Result<(), Stop>, text: &str) -> bool {
     }
 }
 
-// Whether an act over the first bytes of its input writes and tells what its row says.
+// Whether an act over the first bytes of its input writes and tells what its row says. A flush comes
+// before each read and open, and before the end where it ends well.
 fn is_right<R: Threads + Sync + AllocGlobal>(
     rt: &R,
     row: &Row,
@@ -131,7 +132,9 @@ fn is_right<R: Threads + Sync + AllocGlobal>(
     };
     let mut sink = Sink::new(rt.alloc(), row.3, &seen);
     let ended = carry_out(rt, row.0, &odd, filter, &mut sink);
-    is_reported(rt.alloc(), ended, text) & sink.has(row.4)
+    let is_flushed = ended.is_err() | (seen.waiting.get() == 0);
+    let is_told = is_reported(rt.alloc(), ended, text);
+    is_told & sink.has(row.4) & is_flushed & (seen.early.get() == 0)
 }
 
 // The same for each beginning of its input behind which a read may fail: any, or the whole, where

@@ -19,6 +19,7 @@ impl<'a> Inputs for Odd<'a> {
 
     // The input `first` has the key "a", and is odd in nothing.
     fn open(&self, name: &str) -> Result<Source<'a>, Stop> {
+        self.seen.note_read();
         if name == "first" {
             return Ok(Source::new(b"a\n", WHOLE, self.seen));
         }
