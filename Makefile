@@ -43,9 +43,8 @@ DESCRIPTIONS = pkgconfig/fastbloom.pc cmake/fastbloom/fastbloom-config.cmake \
   cmake/fastbloom/fastbloom-config-version.cmake
 
 BINARIES = $(foreach it,$(PROGRAMS),crates/$(it)/out/$(it))
+PROVED = crates/fastbloom_c/out/libfastbloom_c.a
 ARCHIVE = out/c/libfastbloom_c.a
-# (with their folders, whose times tell that a file is gone)
-SOURCES := crates.txt $(shell find crates/*/{src,specs,proofs} 2> /dev/null)
 EXTENSION = out/c/fastbloom_sqlite.so
 HAS_SQLITE := $(shell $(CC) -include sqlite3ext.h -E -x c /dev/null > /dev/null 2>&1 && echo yes)
 MODULE = python/src/fastbloom/_core.abi3.so
@@ -74,12 +73,12 @@ OF_SYSTEM = $(if $(filter /usr/include,$(includedir)),\
 .PHONY: all check install man names release uninstall
 all: $(BINARIES) $(ARCHIVE) $(if $(HAS_SQLITE),$(EXTENSION)) $(if $(HAS_PYTHON),$(MODULE))
 
-# bin/NAME proves and builds a program that isn't up to date.
-$(BINARIES): $(SOURCES)
-	bin/$(@F) --help > /dev/null
-	touch $@
+# dev/prove knows what is up to date, and writes nothing then.
+$(BINARIES) $(PROVED): FORCE
+	dev/prove $(patsubst lib%.a,%,$(@F))
+FORCE:
 
-$(ARCHIVE): $(SOURCES) $(C_SOURCES)
+$(ARCHIVE): $(PROVED) $(C_SOURCES)
 	bin/build-c
 	touch $@
 

@@ -7,15 +7,15 @@ Each of 200 streams draws a number of items, a rate, a key and an alphabet, and 
 which is a letter. A row of the table has the four that the filter is made with, the stream, a plus
 for each item that was contained before its insert and a minus for each other one, how many the
 newer filter took, and a digest of the words of the older filter and of the newer. The model has
-none of the library's code: its filters are those of dev/compare, and its hash is that of
-dev/blocked-model. It stops where an item isn't contained behind which too few came.
+none of the library's code: its filters are those of tests/programs/model.py, and its hash is that
+of dev/blocked-model. It stops where an item isn't contained behind which too few came.
 """
 import math
 import os
 import runpy
 
 TOP = os.path.dirname(os.path.dirname(os.path.realpath(__file__)))
-SET_OF_POSITIONS = runpy.run_path(f'{TOP}/dev/compare')['Filter']
+SET_OF_POSITIONS = runpy.run_path(f'{TOP}/tests/programs/model.py')['Filter']
 SIP, DRAWN = map(runpy.run_path(f'{TOP}/dev/blocked-model').get, ('sip', 'drawn'))
 LENGTH = 64
 LETTERS = 'abcdefghijklmnopqrstuvwxyzABCDEFGHIJKLMNOPQRSTUVWXYZ0123456789'
