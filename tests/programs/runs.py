@@ -40,7 +40,8 @@ class Feeder(threading.Thread):
     def run(self):
         reader = select.poll()
         reader.register(self.pipe, 0)
-        with contextlib.suppress(BrokenPipeError):
+        # (a run that took too long is ended, and its output closed)
+        with contextlib.suppress(BrokenPipeError, ValueError):
             for at, text in enumerate(self.texts):
                 while not self.is_due(at):
                     if reader.poll(1):
