@@ -1,19 +1,16 @@
 mod BitLemmas
 mod BlockedFacts
 mod BlockedLawFacts
-mod BlockedMadeFacts
 mod BlockedSizingFacts
 mod BuilderLemmas
+mod Cases
 pub mod LawLemmas
-mod LineCourseFacts
 mod LineCourseLaws
 mod LineFacts
 mod LineLemmas
 mod LineRateFacts
 mod LineRateLemmas
-mod LineScriptFacts
 mod LineStepFacts
-mod LiveScriptFacts
 mod LiveScriptLemmas
 mod MovedLemmas
 mod PositionLemmas

@@ -1,6 +1,6 @@
--- What rates of lines are said to be: cases that hold, and cases that differ from one of these in
--- one thing and don't hold.
-use Rattle.std.proofs.Common.{◌≡◌, ℕ, List, [], ◌∷◌, get_or, refl, arith, lit<, lit≤}
+-- Rates of lines: for each definition that public clauses cite a case that holds and cases as near
+-- as can be that don't.
+use Rattle.std.proofs.Common.{◌≡◌, ◌^◌, ◌≤◌, ℕ, List, [], ◌∷◌, get_or, refl, arith, lit<, lit≤}
 use Rattle.bloom_parts.specs.Draws.{sum_below, sum_draws, all_in}
 use Rattle.bloom_parts.specs.Made.{SharedWords, FoundByLoad}
 use Rattle.bloom_parts.specs.declared.math.bracket.Bracket.{Bracket}
@@ -10,57 +10,39 @@ abbrev nine : List ℕ
 nine = 10 ∷ 11 ∷ 12 ∷ 13 ∷ 14 ∷ 15 ∷ 16 ∷ 17 ∷ 18 ∷ []
 
 -- the eighth word is the last of its line
-first-line : line_words nine 0 ≡ 10 ∷ 11 ∷ 12 ∷ 13 ∷ 14 ∷ 15 ∷ 16 ∷ 17 ∷ []
-first-line = refl
+line_words-cases : (line_words nine 0 ≡ 10 ∷ 11 ∷ 12 ∷ 13 ∷ 14 ∷ 15 ∷ 16 ∷ 17 ∷ [])
+    × (line_words nine 1 ≡ 18 ∷ [])
+line_words-cases = (refl, refl)
 
-second-line : line_words nine 1 ≡ 18 ∷ []
-second-line = refl
+-- a bracket of these units
+abbrev between : (low high : ℕ) → low ≤ high → high ≤ 2 ^ 63 → Bracket
+between low high ordered fits =
+    record { low = low; high = high; ordered = ordered; in_range = fits }
 
--- the whole, one unit less, and all that there is
-abbrev whole : Bracket
-whole = record {
-  low = 9223372036854775808;
-  high = 9223372036854775808;
-  ordered = lit≤ tt;
-  in_range = lit≤ tt;
-}
-
-abbrev less : Bracket
-less = record whole {
-  low = 9223372036854775807;
-  high = 9223372036854775807;
-  ordered = lit≤ tt;
-  in_range = lit≤ tt;
-}
-
-abbrev wide : Bracket
-wide = record whole { low = 0; ordered = lit≤ tt }
-
--- a look-up of no position returns true in each of two lines
-bounds-whole : BoundsLines (line_words nine) 2 0 whole
+-- a look-up of no position returns true in each of two lines: the rate is the whole, no unit less,
+-- and no bracket two units wide bounds it
+bounds_lines-cases :
+    BoundsLines (line_words nine) 2 0 (between (2 ^ 63) (2 ^ 63) (lit≤ tt) (lit≤ tt))
+    × (BoundsLines (line_words nine) 2 0
+    (between 9223372036854775807 9223372036854775807 (lit≤ tt) (lit≤ tt)) → ⊥)
+    × (BoundsLines (line_words nine) 2 0
+    (between 9223372036854775806 (2 ^ 63) (lit≤ tt) (lit≤ tt)) → ⊥)
 unfolding sum_below sum_draws all_in
-bounds-whole = record {
-  holds = record { at_least = lit≤ tt; at_most = lit≤ tt };
-  width = lit≤ tt;
-}
+bounds_lines-cases = (
+  record { holds = record { at_least = lit≤ tt; at_most = lit≤ tt }; width = lit≤ tt },
+  λ is. omega (arith, is.holds.at_most),
+  λ is. omega (arith, is.width),
+)
 
-bounds-less : BoundsLines (line_words nine) 2 0 less → ⊥
-unfolding sum_below sum_draws all_in
-bounds-less is = omega (arith, is.holds.at_most)
-
--- a bracket may not be as wide as all rates
-bounds-wide : BoundsLines (line_words nine) 2 0 wide → ⊥
-bounds-wide is = omega (arith, is.width)
-
--- a line that was loaded has eight words, and word 1 of line 1 is that of index 9
-loaded-none : (v : SharedWords) → LineWasLoaded v 0 [] → ⊥
-loaded-none v is = omega (arith, is.count)
-
-loaded-ninth : (v : SharedWords) (words : List ℕ) → LineWasLoaded v 1 words →
-    FoundByLoad v 9 (get_or words 1 0)
-loaded-ninth v words is = is.each 1 (lit< tt)
-
--- each line was loaded, the last one too
-loaded-last : (v : SharedWords) (is : BoundsLoadedLines v 2 0 whole) →
-    LineWasLoaded v 1 (is.words 1)
-loaded-last v is = is.loaded 1 (lit< tt)
+-- each line was loaded, the last one too; it has eight words, and word 1 of line 1 is that of index
+-- 9
+bounds_loaded_lines-cases : (v : SharedWords) (bracket : Bracket)
+    → (is : BoundsLoadedLines v 2 0 bracket)
+    → LineWasLoaded v 1 (is.words 1) × FoundByLoad v 9 (get_or (is.words 1) 1 0)
+    × BoundsLines is.words 2 0 bracket × (LineWasLoaded v 0 [] → ⊥)
+bounds_loaded_lines-cases v bracket is = (
+  is.loaded 1 (lit< tt),
+  (is.loaded 1 (lit< tt)).each 1 (lit< tt),
+  is.bounds,
+  λ none. omega (arith, none.count),
+)

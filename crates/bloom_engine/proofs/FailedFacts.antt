@@ -1,4 +1,6 @@
--- What serving promises where a read or a write fails: cases that hold, and near ones that don't.
+-- What serving promises where a read or a write fails: for each definition that public clauses cite
+-- a case that holds and cases as near as can be that don't. The reader's bytes are one good line,
+-- and a beginning of another.
 use Rattle.std.proofs.Common.{◌≡◌, ℕ, List, [], ◌∷◌, ◌++◌, ◌⊎◌, inl, inr, map, Option, Some, None, refl, sym, ◌∙◌, ap}
 use Rattle.std.specs.Prelude.{codes}
 use Rattle.std.proofs.lemmas.Bool.{both_ways}
@@ -11,44 +13,15 @@ use Rattle.bloom_engine.specs.declared.engine.line.Line.TheVariants.{Insert}
 use Rattle.lines.specs.Lines.{lines_by}
 use Rattle.bloom_engine.specs.Lines.{line_of, number_of, operations}
 use Rattle.bloom_engine.specs.Served.{Applied, AreFirstGood, ServedBefore, ServedSome}
-use Rattle.bloom_engine.proofs.CarriedFacts.{zeros, with_one, carried}
-use Rattle.bloom_engine.proofs.CarriedLemmas.{Carried-nil}
-
--- the reader's bytes: one good line, and a beginning of another
-abbrev bytes : List ℕ
-bytes = codes "i 1\nc"
+use Rattle.bloom_engine.proofs.Cases.{zeros, with_one, carried}
 
 -- the first line is good
-first : AreFirstGood (Some bytes) (Insert 1 ∷ [])
+first : AreFirstGood (Some (codes "i 1\nc")) (Insert 1 ∷ [])
 unfolding lines_by line_of number_of
 first = record {
   texts = codes "i 1" ∷ [];
   first = record { later = codes "c" ∷ []; cut = refl };
   good = refl;
-}
-
--- no line is the first of all either
-none : AreFirstGood (Some bytes) []
-unfolding lines_by
-none = record {
-  texts = [];
-  first = record { later = codes "i 1" ∷ codes "c" ∷ []; cut = refl };
-  good = refl;
-}
-
--- a read failed behind the first line, or before any was carried out
-before : ServedBefore (Some bytes) zeros with_one (Some []) (Some (codes "false\n"))
-before = record { lines = Insert 1 ∷ []; carried = carried; first = first }
-
-before-none : ServedBefore (Some bytes) zeros zeros (Some []) (Some [])
-before-none = record { lines = []; carried = Carried-nil zeros (Some []); first = none }
-
--- the first line was carried out, whatever was written
-some : ServedSome (Some bytes) zeros with_one
-some = record {
-  lines = Insert 1 ∷ [];
-  applied = (carried.given, carried.filter);
-  first = first;
 }
 
 -- where each option is some line, none is none
@@ -58,7 +31,7 @@ no-none first rest l [] same = cc
 no-none first rest l (m ∷ ls) same = cc
 
 -- the good lines that are first are this one, or none
-first-lines : (lines : List Line) → AreFirstGood (Some bytes) lines
+first-lines : (lines : List Line) → AreFirstGood (Some (codes "i 1\nc")) lines
     → (lines ≡ []) ⊎ (lines ≡ Insert 1 ∷ [])
 unfolding lines_by line_of number_of
 first-lines lines is = of is.texts lines is.first.later is.first.cut is.good
@@ -97,12 +70,24 @@ not-cleared lines (inr is) did =
     both_ways (content (0 ∷ []) 0) refl (did.1.bits 0
     ∙ ap (λ l. state_after 64 3 (content (0x1_0010_0001 ∷ [])) (operations l) 0) is)
 
--- the filter may not be cleared where a read failed
-before-cleared : ServedBefore (Some bytes) with_one zeros (Some []) (Some []) → ⊥
-before-cleared did =
-    not-cleared did.lines (first-lines did.lines did.first)
-    (did.carried.given, did.carried.filter)
+-- a read failed behind the first line: its text was written, and the filter may not be cleared
+served_before-cases : ServedBefore (Some (codes "i 1\nc")) zeros with_one (Some [])
+    (Some (codes "false\n"))
+    × (ServedBefore (Some (codes "i 1\nc")) with_one zeros (Some []) (Some []) → ⊥)
+served_before-cases = (
+  record { lines = Insert 1 ∷ []; carried = carried; first = first },
+  λ did. not-cleared did.lines (first-lines did.lines did.first)
+      (did.carried.given, did.carried.filter),
+)
 
--- nor where a write failed
-some-cleared : ServedSome (Some bytes) with_one zeros → ⊥
-some-cleared did = not-cleared did.lines (first-lines did.lines did.first) did.applied
+-- the first line was carried out, whatever was written, and no line clears the filter
+served_some-cases : ServedSome (Some (codes "i 1\nc")) zeros with_one
+    × (ServedSome (Some (codes "i 1\nc")) with_one zeros → ⊥)
+served_some-cases = (
+  record {
+    lines = Insert 1 ∷ [];
+    applied = (carried.given, carried.filter);
+    first = first;
+  },
+  λ did. not-cleared did.lines (first-lines did.lines did.first) did.applied,
+)

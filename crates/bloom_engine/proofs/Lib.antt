@@ -1,13 +1,11 @@
-mod ArgumentFacts
 mod BadLineLemmas
-mod CarriedFacts
 mod CarriedLemmas
+mod Cases
 mod FailedFacts
 mod FailedLemmas
 mod HexLemmas
 mod LineFacts
 mod NumberLemmas
-mod ReadingFacts
 mod ServedFacts
 mod ServedLemmas
 mod TakenLemmas

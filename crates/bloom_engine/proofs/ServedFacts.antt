@@ -1,52 +1,117 @@
--- What serving promises of one and two lines: a case that holds, and near ones that don't.
-use Rattle.std.proofs.Common.{◌≡◌, ℕ, ◌+◌, ◌-◌, ◌^◌, ◌≤◌, min, List, [], ◌∷◌, ◌++◌, length, map, replicate, Option, Some, None, length-append, refl, sym, ◌∙◌, ap, arith, inl, inr}
+-- What serving promises of one and two lines: for each definition that public clauses cite a case
+-- that holds and cases as near as can be that don't.
+use Rattle.std.proofs.Common.{◌≡◌, ℕ, ◌+◌, List, [], ◌∷◌, ◌++◌, inl, inr, length, map, replicate, Option, Some, None, length-append, refl, sym, ◌∙◌, ap, arith}
 use Rattle.std.specs.Prelude.{codes}
 use Rattle.bloom_engine.specs.declared.engine.line.Line.{Line}
 use Rattle.bloom_engine.specs.declared.engine.line.Line.TheVariants.{Insert}
 use Rattle.lines.specs.Lines.{lines_by}
 use Rattle.bloom_engine.specs.Lines.{line_of, number_of}
 use Rattle.bloom_engine.specs.Served.{AreAllGood, Reaches, IsReadUpTo, ServedAll, ServedUpTo}
-use Rattle.bloom_plain.specs.Filter.{Filter}
-use Rattle.bloom_engine.proofs.CarriedFacts.{zeros, with_one, carried, carried-text, carried-bits}
+use Rattle.bloom_engine.proofs.Cases.{zeros, with_one, carried, carried-text, carried-bits}
 
--- each line was good, and nothing is left
-whole : AreAllGood (codes "i 1\n") (Some []) (Insert 1 ∷ [])
-unfolding lines_by line_of number_of
-whole = record { good = refl; none_left = refl }
-
--- no byte may be left
-whole-left : (lines : List Line) → AreAllGood (codes "i 1\n") (Some (10 ∷ [])) lines → ⊥
-whole-left lines is = let left : ◌≡◌ {A = Option (List ℕ)} (Some (10 ∷ [])) (Some []) =
-    is.none_left in
+-- of one good line no other is carried out
+good-one : (t : List ℕ) (lines : List Line) → line_of t ≡ Some (Insert 1)
+    → map line_of (t ∷ []) ≡ map Some lines → lines ≡ Insert 1 ∷ []
+good-one t [] is all =
+    let none : ◌≡◌ {A = List (Option Line)} (line_of t ∷ []) [] = all in cc
+good-one t (l ∷ []) is all =
+    let same : ◌≡◌ {A = List (Option Line)} (Some (Insert 1) ∷ []) (Some l ∷ []) =
+    rw is at all in
+    cc
+good-one t (l ∷ (m ∷ ls)) is all =
+    let none : ◌≡◌ {A = List (Option Line)} (line_of t ∷ []) (Some l ∷ Some m ∷ map Some ls) =
+    all in
     cc
 
--- no line may be bad
-whole-bad : (lines : List Line) → AreAllGood (codes "x\n") (Some []) lines → ⊥
-unfolding lines_by line_of
-whole-bad [] is = let bad : ◌≡◌ {A = List (Option Line)} (None ∷ []) [] = is.good in cc
-whole-bad (line ∷ lines) is =
-    let bad : ◌≡◌ {A = List (Option Line)} (None ∷ []) (Some line ∷ map Some lines) = is.good in cc
+-- a bad line isn't good
+good-none : (t : List ℕ) (lines : List Line) → line_of t ≡ None
+    → map line_of (t ∷ []) ≡ map Some lines → ⊥
+good-none t [] is all =
+    let none : ◌≡◌ {A = List (Option Line)} (line_of t ∷ []) [] = all in cc
+good-none t (l ∷ ls) is all =
+    let bad : ◌≡◌ {A = List (Option Line)} (None ∷ []) (Some l ∷ map Some ls) = rw is at all in cc
 
--- only these lines are good
+is_good : line_of (codes "i 1") ≡ Some (Insert 1)
+unfolding line_of number_of
+is_good = refl
+
+is_bad : line_of (codes "x") ≡ None
+unfolding line_of
+is_bad = refl
+
+-- the one line of these bytes was carried out
 whole-lines : (left : Option (List ℕ)) (lines : List Line)
     → AreAllGood (codes "i 1\n") left lines → lines ≡ Insert 1 ∷ []
-unfolding lines_by line_of number_of
-whole-lines left [] is =
-    let good : ◌≡◌ {A = List (Option Line)} (Some (Insert 1) ∷ []) [] = is.good in cc
-whole-lines left (line ∷ []) is = let good : Some (Insert 1) ∷ [] ≡ Some line ∷ [] = is.good in cc
-whole-lines left (line ∷ (other ∷ lines)) is =
-    let good : Some (Insert 1) ∷ [] ≡ Some line ∷ Some other ∷ map Some lines = is.good in cc
-
--- a bad line was given to its end
-reaches : Reaches (codes "i 1\nx\n") (codes "i 1" ∷ []) (codes "x")
 unfolding lines_by
-reaches = record { seen = codes "x"; later = []; cut = refl; enough = inl refl }
+whole-lines left lines is = good-one (codes "i 1") lines is_good is.good
 
--- 23 bytes of a bad line were given
-reaches-long : Reaches (replicate 23 49) [] (replicate 30 49)
+-- each line was good and its text was written: no other text, no byte left, and no bad line
+served_all-cases : ServedAll (Some (codes "i 1\n")) (Some []) zeros with_one (Some [])
+    (Some (codes "false\n"))
+    × (ServedAll (Some (codes "i 1\n")) (Some []) zeros with_one (Some []) (Some (codes "true\n"))
+    → ⊥)
+    × (ServedAll (Some (codes "i 1\n")) (Some []) zeros zeros (Some []) (Some (codes "false\n"))
+    → ⊥)
+    × (ServedAll (Some (codes "i 1\n")) (Some (10 ∷ [])) zeros with_one (Some [])
+    (Some (codes "false\n")) → ⊥)
+    × (ServedAll (Some (codes "x\n")) (Some []) zeros zeros (Some []) (Some []) → ⊥)
 unfolding lines_by
-reaches-long =
-    record { seen = replicate 23 49; later = []; cut = refl; enough = inr (omega arith) }
+served_all-cases = (
+  record {
+    lines = Insert 1 ∷ [];
+    carried = carried;
+    whole = record { good = ap (λ l. l ∷ []) is_good; none_left = refl };
+  },
+  λ did. carried-text did.lines (whole-lines _ did.lines did.whole) did.carried,
+  λ did. carried-bits did.lines (whole-lines _ did.lines did.whole) did.carried,
+  λ did.
+      let left : ◌≡◌ {A = Option (List ℕ)} (Some (10 ∷ [])) (Some []) = did.whole.none_left in
+      cc,
+  λ did. good-none (codes "x") did.lines is_bad did.whole.good,
+)
+
+-- the good lines before the bad one are this one alone
+one-line : (good : List (List ℕ)) (bad : List ℕ) (later : List (List ℕ)) (lines : List Line)
+    → codes "i 1" ∷ codes "x" ∷ [] ≡ good ++ bad ∷ later → map line_of good ≡ map Some lines
+    → line_of bad ≡ None → lines ≡ Insert 1 ∷ []
+one-line [] bad later lines cut all none =
+    let first : codes "i 1" ≡ bad = cc in
+    let wrong : ◌≡◌ {A = Option Line} (Some (Insert 1)) None =
+    sym is_good ∙ ap line_of first ∙ none in
+    cc
+one-line (g ∷ []) bad later lines cut all none =
+    let first : codes "i 1" ≡ g = cc in
+    good-one g lines (sym (ap line_of first) ∙ is_good) all
+one-line (g ∷ (h ∷ [])) bad later lines cut all none =
+    let wrong : ◌≡◌ {A = List (List ℕ)} (codes "i 1" ∷ codes "x" ∷ []) (g ∷ h ∷ bad ∷ later) = cut
+    in
+    cc
+one-line (g ∷ (h ∷ (i ∷ gs))) bad later lines cut all none =
+    let wrong : ◌≡◌ {A = List (List ℕ)} (codes "i 1" ∷ codes "x" ∷ [])
+    (g ∷ h ∷ i ∷ (gs ++ bad ∷ later)) = cut in
+    cc
+
+upto-lines : (left : Option (List ℕ)) (lines : List Line)
+    → IsReadUpTo (codes "i 1\nx\n") (Some (codes "i 1\nx\n")) left lines → lines ≡ Insert 1 ∷ []
+unfolding lines_by
+upto-lines left lines is = one-line is.good is.bad is.later lines is.cut is.all_good is.is_bad
+
+-- a reader that still has all its bytes was read up to no line
+unread : (lines : List Line) → IsReadUpTo (codes "i 1\nx\n") (Some (codes "i 1\nx\n"))
+    (Some (codes "i 1\nx\n")) lines → ⊥
+unfolding lines_by
+unread lines is = of is.given is.gave is.reached
+  where
+    of : (given : List ℕ) → codes "i 1\nx\n" ≡ given ++ codes "i 1\nx\n"
+        → Reaches given is.good is.bad → ⊥
+    of [] gave reached =
+        let none : 0 ≡ length is.good + length (reached.seen ∷ reached.later) =
+        ap length reached.cut ∙ length-append is.good (reached.seen ∷ reached.later) in
+        omega (arith, none)
+    of (b ∷ given) gave reached =
+        let count : 6 ≡ length (b ∷ given) + 6 =
+        ap length gave ∙ length-append (b ∷ given) (codes "i 1\nx\n") in
+        omega (arith, count)
 
 -- 22 bytes of a longer bad line aren't enough
 reaches-short : Reaches (replicate 22 49) [] (replicate 30 49) → ⊥
@@ -60,119 +125,40 @@ reaches-short is =
       | inr long ↦ omega (arith, count, long)
     ]
 
--- a bad line isn't reached of which nothing was given
-reaches-before : Reaches (codes "i 1\n") (codes "i 1" ∷ []) (codes "x") → ⊥
-unfolding lines_by
-reaches-before is = let lines : codes "i 1" ∷ [] ≡ codes "i 1" ∷ is.seen ∷ is.later = is.cut in cc
-
--- line 2 is bad, and the first was carried out
-served : ServedUpTo 2 (Some (codes "i 1\nx\n")) (Some []) zeros with_one (Some [])
+-- line 2 is bad, and the first was carried out: no other number, text or filter, and not before the
+-- bad line was read, or 23 bytes of it
+served_up_to-cases : ServedUpTo 2 (Some (codes "i 1\nx\n")) (Some []) zeros with_one (Some [])
     (Some (codes "false\n"))
-unfolding lines_by line_of number_of
-served = record {
-  lines = Insert 1 ∷ [];
-  carried = carried;
-  number = refl;
-  upto = record {
-    good = codes "i 1" ∷ [];
-    bad = codes "x";
-    later = [];
-    cut = refl;
-    all_good = refl;
-    is_bad = refl;
-    given = codes "i 1\nx\n";
-    gave = refl;
-    reached = reaches;
-  };
-}
-
--- the good lines before the bad one are this one alone
-one-line : (good : List (List ℕ)) (bad : List ℕ) (later : List (List ℕ)) (lines : List Line)
-    → codes "i 1" ∷ codes "x" ∷ [] ≡ good ++ bad ∷ later → map line_of good ≡ map Some lines
-    → line_of bad ≡ None
-    → lines ≡ Insert 1 ∷ []
-unfolding line_of number_of
-one-line [] bad later lines cut all is_bad =
-    let first : codes "i 1" ≡ bad = cc in
-    let none : ◌≡◌ {A = Option Line} (Some (Insert 1)) None = rw (sym first) at is_bad in
-    cc
-one-line (g ∷ []) bad later [] cut all is_bad =
-    let none : ◌≡◌ {A = List (Option Line)} (line_of g ∷ []) [] = all in
-    cc
-one-line (g ∷ []) bad later (l ∷ []) cut all is_bad =
-    let first : codes "i 1" ≡ g = cc in
-    let same : ◌≡◌ {A = List (Option Line)} (Some (Insert 1) ∷ []) (Some l ∷ []) =
-    rw (sym first) at all in
-    cc
-one-line (g ∷ []) bad later (l ∷ (m ∷ ls)) cut all is_bad =
-    let none : ◌≡◌ {A = List (Option Line)} (line_of g ∷ []) (Some l ∷ Some m ∷ map Some ls) =
-    all in
-    cc
-one-line (g ∷ (h ∷ [])) bad later lines cut all is_bad =
-    let none : ◌≡◌ {A = List (List ℕ)} (codes "i 1" ∷ codes "x" ∷ []) (g ∷ h ∷ bad ∷ later) = cut in
-    cc
-one-line (g ∷ (h ∷ (i ∷ gs))) bad later lines cut all is_bad =
-    let none : ◌≡◌ {A = List (List ℕ)} (codes "i 1" ∷ codes "x" ∷ [])
-    (g ∷ h ∷ i ∷ (gs ++ bad ∷ later)) = cut in
-    cc
-
--- the good lines before the bad one are this one alone, wherever the reader stands
-upto-lines : (left : Option (List ℕ)) (lines : List Line)
-    → IsReadUpTo (codes "i 1\nx\n") (Some (codes "i 1\nx\n")) left lines → lines ≡ Insert 1 ∷ []
+    × (ServedUpTo 1 (Some (codes "i 1\nx\n")) (Some []) zeros with_one (Some [])
+    (Some (codes "false\n")) → ⊥)
+    × (ServedUpTo 2 (Some (codes "i 1\nx\n")) (Some []) zeros with_one (Some [])
+    (Some (codes "true\n")) → ⊥)
+    × (ServedUpTo 2 (Some (codes "i 1\nx\n")) (Some []) zeros zeros (Some [])
+    (Some (codes "false\n")) → ⊥)
+    × (ServedUpTo 2 (Some (codes "i 1\nx\n")) (Some (codes "i 1\nx\n")) zeros with_one (Some [])
+    (Some (codes "false\n")) → ⊥)
+    × (Reaches (replicate 22 49) [] (replicate 30 49) → ⊥)
 unfolding lines_by
-upto-lines left lines is = one-line is.good is.bad is.later lines is.cut is.all_good is.is_bad
-
--- line 1 isn't the bad one
-served-number : ServedUpTo 1 (Some (codes "i 1\nx\n")) (Some []) zeros with_one (Some [])
-    (Some (codes "false\n")) → ⊥
-served-number did =
-    let lines = upto-lines _ did.lines did.upto in
-    let number : 1 ≡ min (length did.lines + 1) (2 ^ 64 - 1) = did.number in
-    omega (arith, ap length lines, number)
-
--- another text may not be written before a bad line
-served-text : ServedUpTo 2 (Some (codes "i 1\nx\n")) (Some []) zeros with_one (Some [])
-    (Some (codes "true\n")) → ⊥
-served-text did = carried-text did.lines (upto-lines _ did.lines did.upto) did.carried
-
--- the filter may not stay as it was before a bad line
-served-filter : ServedUpTo 2 (Some (codes "i 1\nx\n")) (Some []) zeros zeros (Some [])
-    (Some (codes "false\n")) → ⊥
-served-filter did = carried-bits did.lines (upto-lines _ did.lines did.upto) did.carried
-
--- a reader that still has all its bytes was read up to no line
-upto-unread : (lines : List Line)
-    → IsReadUpTo (codes "i 1\nx\n") (Some (codes "i 1\nx\n")) (Some (codes "i 1\nx\n")) lines
-    → ⊥
-unfolding lines_by
-upto-unread lines is = of is.given is.gave is.reached
-  where
-    of : (given : List ℕ) → codes "i 1\nx\n" ≡ given ++ codes "i 1\nx\n"
-        → Reaches given is.good is.bad → ⊥
-    of [] gave reached =
-        let none : 0 ≡ length is.good + length (reached.seen ∷ reached.later) =
-        ap length reached.cut ∙ length-append is.good (reached.seen ∷ reached.later) in
-        omega (arith, none)
-    of (b ∷ given) gave reached =
-        let count : 6 ≡ length (b ∷ given) + 6 =
-        ap length gave ∙ length-append (b ∷ given) (codes "i 1\nx\n") in
-        omega (arith, count)
-
--- the number of a line stays at 2^64 - 1
-served-most : (n : ℕ) (read left from to : Option (List ℕ)) (old new : Filter (Unit {0}))
-    → ServedUpTo n read left old new from to → n ≤ 2 ^ 64 - 1
-served-most n read left from to old new did = omega (arith, did.number)
-
--- every line is good
-all : ServedAll (Some (codes "i 1\n")) (Some []) zeros with_one (Some []) (Some (codes "false\n"))
-all = record { lines = Insert 1 ∷ []; carried = carried; whole = whole }
-
--- another text may not be written
-all-text : ServedAll (Some (codes "i 1\n")) (Some []) zeros with_one (Some [])
-    (Some (codes "true\n")) → ⊥
-all-text did = carried-text did.lines (whole-lines _ did.lines did.whole) did.carried
-
--- no byte may be left to a run that served all
-all-left : ServedAll (Some (codes "i 1\n")) (Some (10 ∷ [])) zeros with_one (Some [])
-    (Some (codes "false\n")) → ⊥
-all-left did = whole-left did.lines did.whole
+served_up_to-cases = (
+  record {
+    lines = Insert 1 ∷ [];
+    carried = carried;
+    number = refl;
+    upto = record {
+      good = codes "i 1" ∷ [];
+      bad = codes "x";
+      later = [];
+      cut = refl;
+      all_good = ap (λ l. l ∷ []) is_good;
+      is_bad = is_bad;
+      given = codes "i 1\nx\n";
+      gave = refl;
+      reached = record { seen = codes "x"; later = []; cut = refl; enough = inl refl };
+    };
+  },
+  λ did. omega (arith, ap length (upto-lines _ did.lines did.upto), did.number),
+  λ did. carried-text did.lines (upto-lines _ did.lines did.upto) did.carried,
+  λ did. carried-bits did.lines (upto-lines _ did.lines did.upto) did.carried,
+  λ did. unread did.lines did.upto,
+  reaches-short,
+)
