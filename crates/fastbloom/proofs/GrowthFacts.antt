@@ -1,6 +1,7 @@
--- Filters that grow as they are made, and what their laws say: cases that hold, and near ones that
--- don't. The plan has room for one item at first, at the rate four. At 4 / 2 a filter of one word
--- for one item has 44 hashes, and for two items 22. Hash 1 has the positions 0 and 20 among 64.
+-- Filters that grow as they are made, and what their laws say: cases that hold, and the nearest
+-- that don't. The plan has room for one item at first, at the rate four. At 4 / 2 a filter of one
+-- word for one item has 44 hashes, and for two items 22. Hash 1 has the positions 0 and 20 among
+-- 64.
 use Rattle.std.proofs.Common.{◌≡◌, ◌∙◌, ◌<◌, ℕ, max, true, List, [], ◌∷◌, length, refl, ap, subst, arith, lit<, lit≤}
 use Rattle.bloom_parts.specs.Chain.{chain}
 use Rattle.bloom_parts.specs.Content.{content}
@@ -79,45 +80,37 @@ number-only made is =
     ∙ ap (λ b. sized_filter (empty_start (rate_start four 7) b) 1)
     (size.2 ∙ ap (size_for (max 1 1)) same)
 
+-- a filter that was just made has its plan's first filter alone, which took nothing
 begun : IsBegun Plain (plan 1) (grown [] (filter 0 44) 0)
-begun = record { plan = refl; older = refl; newest = number-first; taken = refl }
-
--- it took nothing yet
-begun-taken : IsBegun Plain (plan 1) (grown [] (filter 0 44) 1) → ⊥
-begun-taken is = let wrong : 1 ≡ 0 = is.taken in omega (arith, wrong)
-
--- it has no full filter
-begun-older : IsBegun Plain (plan 1) (grown (with_one ∷ []) (filter 0 44) 0) → ⊥
-begun-older is = let wrong : 1 ≡ 0 = ap length is.older in omega (arith, wrong)
-
--- its filter isn't for two items
-begun-twice : IsBegun Plain (plan 1) (grown [] (filter 0 22) 0) → ⊥
-begun-twice is =
-    let wrong : 22 ≡ 44 = ap (λ f. f.hashes) (number-only (filter 0 22) is.newest) in
-    omega (arith, wrong)
-
--- nor is it another plan's
-begun-plan : IsBegun Plain (plan 2) (grown [] (filter 0 44) 0) → ⊥
-begun-plan is = let wrong : 1 ≡ 2 = ap (λ p. p.room) is.plan in omega (arith, wrong)
+    × (IsBegun Plain (plan 1) (grown [] (filter 0 44) 1) → ⊥)
+    × (IsBegun Plain (plan 1) (grown (with_one ∷ []) (filter 0 44) 0) → ⊥)
+    × (IsBegun Plain (plan 1) (grown [] (filter 0 22) 0) → ⊥)
+    × (IsBegun Plain (plan 2) (grown [] (filter 0 44) 0) → ⊥)
+begun = (
+  record { plan = refl; older = refl; newest = number-first; taken = refl },
+  λ is. omega (arith, is.taken),
+  λ is. omega (arith, ap length is.older),
+  λ is. omega (arith, ap (λ f. f.hashes) (number-only (filter 0 22) is.newest)),
+  λ is. omega (arith, ap (λ p. p.room) is.plan),
+)
 
 -- ---- laws
 
-module _ (new : Growing ℕ) where
-  -- a hash that is contained stays so, whatever comes
-  kept-used : GrowingKeptLaw ℕ → (hashes : List ℕ) → TakesAll Plain (grown [] with_one 1) hashes new
-      → has Plain new 1 ≡ true
-  unfolding content chain are_in
-  kept-used law hashes did = law Plain (grown [] with_one 1) new hashes 1 did refl
+-- a hash that is contained stays so, whatever comes
+kept_law : GrowingKeptLaw ℕ → (new : Growing ℕ) (hashes : List ℕ)
+    → TakesAll Plain (grown [] with_one 1) hashes new → has Plain new 1 ≡ true
+unfolding content chain are_in
+kept_law law new hashes did = law Plain (grown [] with_one 1) new hashes 1 did refl
 
-  -- each of two hashes that came is contained
-  found-first : GrowingFoundLaw ℕ → TakesAll Plain (grown [] with_none 0) (1 ∷ 5 ∷ []) new
-      → has Plain new 1 ≡ true
-  found-first law did = law Plain (grown [] with_none 0) new [] (5 ∷ []) 1 did
-
-  found-second : GrowingFoundLaw ℕ → TakesAll Plain (grown [] with_none 0) (1 ∷ 5 ∷ []) new
-      → has Plain new 5 ≡ true
-  found-second law did = law Plain (grown [] with_none 0) new (1 ∷ []) [] 5 did
+-- each of two hashes that came is contained
+found_law : GrowingFoundLaw ℕ → (new : Growing ℕ)
+    → TakesAll Plain (grown [] with_none 0) (1 ∷ 5 ∷ []) new
+    → (has Plain new 1 ≡ true) × (has Plain new 5 ≡ true)
+found_law law new did = (
+  law Plain (grown [] with_none 0) new [] (5 ∷ []) 1 did,
+  law Plain (grown [] with_none 0) new (1 ∷ []) [] 5 did,
+)
 
 -- the rates 4 / 2 and 4 / 4 sum to 24 / 8, which is below four
-rates-used : RatesBelowLaw → 24 < 32
-rates-used law = law four 2
+rates_law : RatesBelowLaw → 24 < 32
+rates_law law = law four 2
