@@ -18,7 +18,8 @@ first = name ++ 49 ∷ []
 abbrev pub seven : List ℕ
 seven = 0 ∷ 0 ∷ 0 ∷ 0 ∷ 0 ∷ 0 ∷ 0 ∷ []
 
--- the bytes of a number of which only the lowest isn't 0, and of one of which only the highest isn't
+-- the bytes of a number of which only the lowest isn't 0, and of one of which only the highest
+-- isn't
 abbrev pub low : ℕ → List ℕ
 low number = number ∷ seven
 

@@ -95,8 +95,8 @@ writes = (
 file_law-whole : FileLaw → (f : DefaultFilter) → IsFileOf Whole worked f → AnswerAlike crabs f
 file_law-whole law f is = law Whole worked crabs f of-worked is
 
--- each filter of the file of one line has its words and hashes, and contains the hash of `crab`, and
--- not the one after
+-- each filter of the file of one line has its words and hashes, and contains the hash of `crab`,
+-- and not the one after
 file_law-lines : FileLaw → (f : DefaultFilter) → IsFileOf Lines line_file f
     → (f.words ≡ line_words) × (f.hashes ≡ 3)
     × (contains_in_line f 0x28b5_d1a8_6888_d657 ≡ true)

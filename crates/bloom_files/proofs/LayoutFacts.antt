@@ -93,8 +93,8 @@ differs bytes measure plain sealed is =
       | inr right ↦ sealed (ap measure (is.is ∙ ap file right))
     ]
 
--- the file of the word has its seal or none: no other, nor is its key swapped, a reserved byte other
--- than 0, or a byte too many
+-- the file of the word has its seal or none: no other, nor is its key swapped, a reserved byte
+-- other than 0, or a byte too many
 is_file : IsFileIn Whole worked its_head word
     × IsFileIn Whole unsealed its_head word
     × (IsFileIn Whole (head_with (169 ∷ 27 ∷ 10 ∷ 212 ∷ 238 ∷ 141 ∷ 157 ∷ 93 ∷ []) (low 0) (low 0)

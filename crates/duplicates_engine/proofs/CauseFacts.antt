@@ -71,7 +71,8 @@ abbrev Caused : ℕ → List (List ℕ) → Fault → Type 0
 Caused longest lines fault =
     IsCaused refuses fails 10 longest (Some (codes "a\nb\n" ∷ codes "c" ∷ [])) lines tt tt fault
 
--- the sieve is full at `b`, which it refuses: not at `c`, nor where `b` is longer than a line may be
+-- the sieve is full at `b`, which it refuses: not at `c`, nor where `b` is longer than a line may
+-- be
 full : Caused 1 (codes "a" ∷ []) Full
     × (Caused 1 (codes "a" ∷ codes "b" ∷ []) Full → ⊥)
     × (Caused 0 (codes "a" ∷ []) Full → ⊥)

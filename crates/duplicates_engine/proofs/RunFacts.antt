@@ -73,8 +73,8 @@ Ended come text fault =
     EndsEarly span recalls_none keeps refuses fails 10 (asked 1 New) (Some come) tt [] []
     (Some []) (Some text) None None None None fault
 
--- it may be out of memory, and isn't full where its sieve refuses nothing; and it wrote no line that
--- it didn't read
+-- it may be out of memory, and isn't full where its sieve refuses nothing; and it wrote no line
+-- that it didn't read
 ended : Ended (codes "a\n" ∷ []) [] Memory
     × (Ended (codes "a\n" ∷ []) [] Full → ⊥)
     × (Ended [] (codes "a\n") Memory → ⊥)

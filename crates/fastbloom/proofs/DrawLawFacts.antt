@@ -1,5 +1,5 @@
 -- What the laws of draws say at small numbers, and which brackets the rate of a set has, and that
--- of one of two tests: cases that hold, and near ones that don't.
+-- of one of two tests: cases that hold, and the nearest that don't.
 use Rattle.std.proofs.Common.{◌≡◌, ◌∙◌, ◌^◌, ◌≤◌, ◌||◌, ℕ, Bool, eqb, refl, sym, ap, subst, arith, lit<, lit≤}
 use Rattle.bloom_parts.specs.declared.math.bracket.Bracket.{Bracket}
 use Rattle.bloom_parts.specs.Brackets.{Holds}
@@ -44,94 +44,62 @@ upper-two law = law 2 2 2 (lit< tt)
 
 -- ---- the rate of a set
 
+-- a bracket with these ends, in parts of 2^63
+abbrev bracket : (low high : ℕ) → low ≤ high → high ≤ 2 ^ 63 → Bracket
+bracket low high ordered in_range =
+    record { low = low; high = high; ordered = ordered; in_range = in_range }
+
 -- a sixteenth, and brackets that begin a unit lower and end a unit higher
 abbrev sixteenth : Bracket
-sixteenth = record {
-  low = 576460752303423488;
-  high = 576460752303423488;
-  ordered = lit≤ tt;
-  in_range = lit≤ tt;
-}
+sixteenth = bracket 576460752303423488 576460752303423488 (lit≤ tt) (lit≤ tt)
 
 abbrev from_below : Bracket
-from_below = record sixteenth {
-  low = 576460752303423487;
-  ordered = lit≤ tt;
-  in_range = lit≤ tt;
-}
+from_below = bracket 576460752303423487 576460752303423488 (lit≤ tt) (lit≤ tt)
 
 abbrev to_above : Bracket
-to_above = record sixteenth {
-  high = 576460752303423489;
-  ordered = lit≤ tt;
-  in_range = lit≤ tt;
-}
+to_above = bracket 576460752303423488 576460752303423489 (lit≤ tt) (lit≤ tt)
 
--- each set of one of four positions has one of the sixteen queries of two
-bounds-one : PositivesLaw → BoundsPositives 4 2 1 sixteenth
+-- each set of one of four positions has one of the sixteen queries of two, and wider brackets
+-- aren't its bracket, though they hold the rate
+bounds : PositivesLaw
+    → BoundsPositives 4 2 1 sixteenth
+    × (BoundsPositives 4 2 1 from_below → ⊥)
+    × (BoundsPositives 4 2 1 to_above → ⊥)
 unfolding rounded_power
-bounds-one law = record {
-  holds = λ A one. subst (λ n. Holds sixteenth n 16) (sym (law 4 2 A ∙ ap (λ n. n ^ 2) one))
-      (record { at_least = lit≤ tt; at_most = lit≤ tt });
-  low = refl;
-  high = refl;
-  width = lit≤ tt;
-}
-
--- wider brackets aren't its bracket, though they hold the rate
-bounds-below : BoundsPositives 4 2 1 from_below → ⊥
-unfolding rounded_power
-bounds-below is =
-    let wrong : 576460752303423487 ≡ 576460752303423488 = is.low in omega (arith, wrong)
-
-bounds-above : BoundsPositives 4 2 1 to_above → ⊥
-unfolding rounded_power
-bounds-above is =
-    let wrong : 576460752303423489 ≡ 576460752303423488 = is.high in omega (arith, wrong)
+bounds law = (
+  record {
+    holds = λ A one. subst (λ n. Holds sixteenth n 16) (sym (law 4 2 A ∙ ap (λ n. n ^ 2) one))
+        (record { at_least = lit≤ tt; at_most = lit≤ tt });
+    low = refl;
+    high = refl;
+    width = lit≤ tt;
+  },
+  λ is. (let wrong : 576460752303423487 ≡ 576460752303423488 = is.low in omega (arith, wrong)),
+  λ is. (let wrong : 576460752303423489 ≡ 576460752303423488 = is.high in omega (arith, wrong)),
+)
 
 -- ---- one of two tests
 
--- a quarter, a half, and what lies from a half to three quarters
+-- a quarter, a half, and what lies from a half or a quarter to three quarters
 abbrev quarter : Bracket
-quarter = record {
-  low = 2305843009213693952;
-  high = 2305843009213693952;
-  ordered = lit≤ tt;
-  in_range = lit≤ tt;
-}
+quarter = bracket 2305843009213693952 2305843009213693952 (lit≤ tt) (lit≤ tt)
 
 abbrev half : Bracket
-half = record {
-  low = 4611686018427387904;
-  high = 4611686018427387904;
-  ordered = lit≤ tt;
-  in_range = lit≤ tt;
-}
+half = bracket 4611686018427387904 4611686018427387904 (lit≤ tt) (lit≤ tt)
 
 abbrev from_half : Bracket
-from_half = record half {
-  high = 6917529027641081856;
-  ordered = lit≤ tt;
-  in_range = lit≤ tt;
-}
+from_half = bracket 4611686018427387904 6917529027641081856 (lit≤ tt) (lit≤ tt)
 
--- one of a quarter and a half holds for a half at least, and three quarters at most
-either-both : HoldsEither quarter half from_half → BoundsEither quarter half from_half
-either-both holds = record { holds = holds; low = refl; high = refl }
-
--- it may hold for more than a half
-either-half : BoundsEither quarter half half → ⊥
-either-half is =
-    let wrong : 4611686018427387904 ≡ 6917529027641081856 = is.high in omega (arith, wrong)
-
--- and doesn't hold for less
 abbrev from_quarter : Bracket
-from_quarter = record from_half {
-  low = 2305843009213693952;
-  ordered = lit≤ tt;
-  in_range = lit≤ tt;
-}
+from_quarter = bracket 2305843009213693952 6917529027641081856 (lit≤ tt) (lit≤ tt)
 
-either-quarter : BoundsEither quarter half from_quarter → ⊥
-either-quarter is =
-    let wrong : 2305843009213693952 ≡ 4611686018427387904 = is.low in omega (arith, wrong)
+-- one of a quarter and a half holds for a half at least, and for three quarters at most: perhaps
+-- for more than a half, and not for less
+either : (HoldsEither quarter half from_half → BoundsEither quarter half from_half)
+    × (BoundsEither quarter half half → ⊥)
+    × (BoundsEither quarter half from_quarter → ⊥)
+either = (
+  λ holds. record { holds = holds; low = refl; high = refl },
+  λ is. (let wrong : 4611686018427387904 ≡ 6917529027641081856 = is.high in omega (arith, wrong)),
+  λ is. (let wrong : 2305843009213693952 ≡ 4611686018427387904 = is.low in omega (arith, wrong)),
+)

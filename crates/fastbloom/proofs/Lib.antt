@@ -1,20 +1,17 @@
 mod CallFacts
+mod Cases
 mod DataLemmas
 mod DrawLawFacts
 mod FillFacts
-mod FillLawFacts
 mod FillLawLemmas
 pub mod FillLemmas
 mod FormLemmas
 mod InsertedLemmas
-mod LentStepFacts
 mod LoadedFacts
-mod MadeFacts
-mod OnesFacts
+mod MeetingFacts
+mod PassFacts
 mod ReadingLemmas
-mod ScriptLemmas
-mod SeatedFacts
+mod RuleFacts
+mod SeatedLawFacts
 mod SeatedLemmas
 mod SharedFacts
-mod SharedFormFacts
-mod TurnFacts

@@ -1,57 +1,140 @@
--- Words that were loaded of a vector, and a vector that begins with them: cases that hold, and
--- cases that nearly do.
-use Rattle.std.proofs.Common.{◌≡◌, ℕ, List, [], ◌∷◌, Some, refl, slice_get, sym, subst, arith}
+-- Words that were loaded of a vector, and how many bits were set in them: cases that hold, and the
+-- nearest that don't. The word 5 has two bits.
+use Rattle.std.proofs.Common.{◌≡◌, ◌≢◌, ◌∙◌, ℕ, List, [], ◌∷◌, Option, Some, IfSome, ◌≤◌, refl, sym, ap, slice_get, subst, arith, lit≤}
 use Rattle.std.proofs.lemmas.Option.{same_Some}
+use Rattle.bloom_parts.specs.Content.{content}
+use Rattle.bloom_parts.specs.Counts.{count_on}
+use Rattle.bloom_parts.specs.FalsePositives.{positives_high}
 use Rattle.bloom_parts.specs.Made.{BeganWith, FoundByLoad}
-use Rattle.bloom_steps.specs.Loaded.{WereLoaded}
-use Rattle.fastbloom.specs.Shared.{BeganAsLoaded}
-use Rattle.fastbloom.proofs.SharedFacts.{filter}
+use Rattle.bloom_parts.specs.Powers.{rounded_power}
+use Rattle.bloom_parts.specs.declared.math.bracket.Bracket.{Bracket}
+use Rattle.bloom_parts.specs.declared.math.estimate.Estimate.{Estimate}
+use Rattle.bloom_steps.specs.Loaded.{CountsLoaded, WereLoaded}
+use Rattle.fastbloom.specs.LoadedOnes.{BoundsLoaded, EstimatesLoaded}
+use Rattle.fastbloom.specs.Shared.{BeganAsLoaded, WereFoundAlike, WereFoundToDiffer}
+use Rattle.fastbloom.proofs.Cases.{shared}
 
--- the words of a vector of one word
-pub were-loaded : (name : ℕ) → FoundByLoad (filter name 1 1).words 0 5
-    → WereLoaded (filter name 1 1).words (5 ∷ [])
+-- the one word of a vector was loaded
+pub were-loaded : (name : ℕ) → FoundByLoad (shared name 1 1).words 0 5
+    → WereLoaded (shared name 1 1).words (5 ∷ [])
 were-loaded name made = record {
   count = refl;
   each = λ i within. subst
-      (λ j. (found : ℕ) × FoundByLoad (filter name 1 1).words j found
+      (λ j. (found : ℕ) × FoundByLoad (shared name 1 1).words j found
       × (slice_get (5 ∷ []) j ≡ Some found)) (omega (arith, within)) (5, made, refl);
 }
 
--- no fewer words were loaded than a vector has
-fewer-loaded : (name : ℕ) → WereLoaded (filter name 2 1).words (5 ∷ []) → ⊥
-fewer-loaded name words = omega (arith, words.count)
+-- and it is what the load found
+pub was-loaded : (name word : ℕ) → WereLoaded (shared name 1 1).words (word ∷ [])
+    → FoundByLoad (shared name 1 1).words 0 word
+was-loaded name word loaded =
+    let first = loaded.each 0 (omega arith) in
+    subst (FoundByLoad (shared name 1 1).words 0) (sym (same_Some word first.0 first.2)) first.1
 
--- no more words were loaded than a vector has
-more-loaded : (name : ℕ) → WereLoaded (filter name 1 1).words (5 ∷ 6 ∷ []) → ⊥
-more-loaded name words = omega (arith, words.count)
+-- as many words are loaded as a vector has, and each is one that a load found
+loaded : (FoundByLoad (shared 1 1 1).words 0 5 → WereLoaded (shared 1 1 1).words (5 ∷ []))
+    × (WereLoaded (shared 1 1 1).words (5 ∷ []) → FoundByLoad (shared 1 1 1).words 0 5)
+    × (WereLoaded (shared 1 2 1).words (5 ∷ []) → ⊥)
+    × (WereLoaded (shared 1 1 1).words (5 ∷ 6 ∷ []) → ⊥)
+loaded = (
+  were-loaded 1,
+  was-loaded 1 5,
+  λ words. omega (arith, words.count),
+  λ words. omega (arith, words.count),
+)
 
--- each word is one that a load found
-other-loaded : (name : ℕ) → WereLoaded (filter name 1 1).words (5 ∷ [])
-    → FoundByLoad (filter name 1 1).words 0 5
-other-loaded name words =
-    let first = words.each 0 (omega arith) in
-    subst (FoundByLoad (filter name 1 1).words 0) (sym (same_Some 5 first.0 first.2)) first.1
-
--- a vector begins with the word that a load of the other found
-began-as-loaded : FoundByLoad (filter 1 1 1).words 0 5 → BeganWith (filter 2 1 1).words (5 ∷ [])
-    → BeganAsLoaded (filter 2 1 1).words (filter 1 1 1).words
-began-as-loaded found began = (5 ∷ [], were-loaded 1 found, began)
-
--- the one word that a vector begins with was loaded of the other
-loaded-at-start : BeganAsLoaded (filter 2 1 1).words (filter 1 1 1).words
-    → (word : ℕ) × FoundByLoad (filter 1 1 1).words 0 word
-    × BeganWith (filter 2 1 1).words (word ∷ [])
-loaded-at-start as_loaded = one as_loaded.0 as_loaded.1 as_loaded.2
+-- a vector began with words that were loaded of another, one load for each index
+began_as_loaded : (FoundByLoad (shared 1 1 1).words 0 5 → BeganWith (shared 2 1 1).words (5 ∷ [])
+    → BeganAsLoaded (shared 2 1 1).words (shared 1 1 1).words)
+    × (BeganAsLoaded (shared 2 1 1).words (shared 1 1 1).words
+    → (word : ℕ) × FoundByLoad (shared 1 1 1).words 0 word
+    × BeganWith (shared 2 1 1).words (word ∷ []))
+began_as_loaded = (
+  λ found began. (5 ∷ [], were-loaded 1 found, began),
+  λ began. one began.0 began.1 began.2,
+)
   where
-    one : (words : List ℕ) → WereLoaded (filter 1 1 1).words words
-        → BeganWith (filter 2 1 1).words words
-        → (word : ℕ) × FoundByLoad (filter 1 1 1).words 0 word
-        × BeganWith (filter 2 1 1).words (word ∷ [])
+    one : (words : List ℕ) → WereLoaded (shared 1 1 1).words words
+        → BeganWith (shared 2 1 1).words words
+        → (word : ℕ) × FoundByLoad (shared 1 1 1).words 0 word
+        × BeganWith (shared 2 1 1).words (word ∷ [])
     one [] loaded began = absurd (omega (arith, loaded.count))
-    one (word ∷ []) loaded began =
-        let first = loaded.each 0 (omega arith) in (
-          word,
-          subst (FoundByLoad (filter 1 1 1).words 0) (sym (same_Some word first.0 first.2)) first.1,
-          began,
-        )
+    one (word ∷ []) loaded began = (word, was-loaded 1 word loaded, began)
     one (word ∷ (next ∷ rest)) loaded began = absurd (omega (arith, loaded.count))
+
+-- two filters are found alike where a load of either found the same word at each index, and have
+-- equal shapes
+alike : (FoundByLoad (shared 1 1 3).words 0 5 → FoundByLoad (shared 2 1 3).words 0 5
+    → WereFoundAlike (shared 1 1 3) (shared 2 1 3))
+    × (WereFoundAlike (shared 1 2 3) (shared 2 2 3)
+    → (found : ℕ) × FoundByLoad (shared 1 2 3).words 1 found
+    × FoundByLoad (shared 2 2 3).words 1 found)
+    × (WereFoundAlike (shared 1 1 3) (shared 2 1 4) → ⊥)
+alike = (
+  λ here there. record {
+    shape = record { words = refl; hashes = refl };
+    words = λ i within. subst
+        (λ j. (found : ℕ) × FoundByLoad (shared 1 1 3).words j found
+        × FoundByLoad (shared 2 1 3).words j found)
+        (omega (arith, within)) (5, here, there);
+  },
+  λ alike. alike.words 1 (omega arith),
+  λ alike. omega (arith, alike.shape.hashes),
+)
+
+-- they are found to differ where loads at one index found words that differ
+differ : (FoundByLoad (shared 1 1 3).words 0 5 → FoundByLoad (shared 2 1 3).words 0 6
+    → WereFoundToDiffer (shared 1 1 3) (shared 2 1 3))
+    × (WereFoundToDiffer (shared 1 1 3) (shared 2 1 3)
+    → (i : ℕ) × (found : ℕ) × (other : ℕ) × FoundByLoad (shared 1 1 3).words i found
+    × FoundByLoad (shared 2 1 3).words i other × (found ≢ other))
+differ = (
+  λ here there. record {
+    index = 0;
+    found = 5;
+    other = 6;
+    here = here;
+    there = there;
+    differ = λ same. omega (arith, same);
+  },
+  λ is. (is.index, is.found, is.other, is.here, is.there, is.differ),
+)
+
+-- the bits of 5 by themselves
+five : count_on (content (5 ∷ [])) 64 ≡ 2
+unfolding content count_on
+five = refl
+
+-- where a load of the one word found 5, two bits were set, and not three
+counts : (FoundByLoad (shared 1 1 1).words 0 5 → CountsLoaded (shared 1 1 1).words 2)
+    × ((is : CountsLoaded (shared 1 1 1).words 3) → is.words ≡ 5 ∷ [] → ⊥)
+counts = (
+  λ made. record { words = 5 ∷ []; loaded = were-loaded 1 made; counted = sym five },
+  λ is words. (let counted : 3 ≡ 2 =
+      is.counted ∙ ap (λ (l : List ℕ). count_on (content l) 64) words ∙ five in
+      omega (arith, counted)),
+)
+
+-- exactly one item
+abbrev one : Estimate
+one = record {
+  low = 1;
+  high = Some 1;
+  ordered = λ x is. subst (λ (most : Option ℕ). IfSome most (λ it. 1 ≤ it)) is (lit≤ tt);
+}
+
+-- where no bit was set, an estimate of one item is wrong
+estimates : (is : EstimatesLoaded (shared 1 1 1) one) → is.ones ≡ 0 → ⊥
+estimates is empty = omega (arith, (is.estimates.none empty).0)
+
+-- one whole, which is the rate of no filter with a clear bit
+abbrev whole : Bracket
+whole = record { low = 0; high = 9223372036854775808; ordered = lit≤ tt; in_range = lit≤ tt }
+
+-- where two of 64 bits were set, the upper bound for one hash is 1 / 32, and not one whole
+bounds : (is : BoundsLoaded (shared 1 1 1) whole) → is.ones ≡ 2 → ⊥
+unfolding rounded_power
+bounds is two =
+    let high : 9223372036854775808 ≡ 288230376151711744 =
+    is.bounds.high ∙ ap (λ ones. positives_high 64 1 ones) two in
+    omega (arith, high)

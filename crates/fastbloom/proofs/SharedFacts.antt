@@ -1,194 +1,146 @@
--- What the definitions of calls on shared filters say: cases that hold, and cases that nearly do.
-use Rattle.std.proofs.Common.{◌≡◌, ◌≢◌, ◌∙◌, ℕ, zero, suc, ◌+◌, ◌*◌, ◌/◌, ◌%◌, ◌^◌, ◌<◌, Bool, false, List, [], ◌∷◌, Some, None, refl, sym, subst, arith}
-use Rattle.std.proofs.lemmas.Option.{none-some, same_Some}
-use Rattle.bloom_parts.specs.Chain.{chain}
-use Rattle.bloom_parts.specs.Places.{place}
-use Rattle.bloom_parts.specs.Made.{BeganWith, FoundByLoad, FoundByOr, MadeZero, InTurn, made-in_turn}
-use Rattle.bloom_steps.specs.declared.steps.vocabulary.Step.TheVariants.{Or}
-use Rattle.bloom_steps.specs.declared.steps.vocabulary.Call.TheVariants.{Insert, Clear, Union}
-use Rattle.bloom_steps.specs.declared.steps.vocabulary.End.TheVariants.{Answer}
-use Rattle.bloom_steps.specs.Scripts.{Taken, Each}
-use Rattle.bloom_plain.specs.Filter.{Filter}
-use Rattle.bloom_steps.specs.LiveSteps.{IsMade, MakesCallOn}
-use Rattle.fastbloom.specs.Shared.{SharedFilter, HaveSameShape, HasFormOf, WereFoundAlike, WereFoundToDiffer}
-use Rattle.fastbloom.proofs.ScriptLemmas.{member}
-use Rattle.bloom_steps.proofs.LiveLemmas.{insert-answers, made-at, silent}
+-- What contracts say of filters that threads share: cases that hold, and the nearest that don't.
+-- How many sixty-fourths of a halving one half has is a premise here; `bloom_parts` shows it.
+use Rattle.std.proofs.Common.{◌≡◌, ◌∙◌, ℕ, ◌+◌, List, [], ◌∷◌, length, get_or, map, replicate, refl, ap, sym, subst, arith, lit<}
+use Rattle.bloom_parts.specs.Made.{BeganWith, FoundBySwap, InTurn, made-in_turn}
+use Rattle.bloom_parts.specs.Sizing.{IsHalvings, size_for}
+use Rattle.bloom_plain.specs.Builders.{RateStart, words_for, empty_start, sized_filter, IsSizeOf}
+use Rattle.bloom_steps.specs.declared.steps.vocabulary.Step.TheVariants.{Take}
+use Rattle.bloom_steps.specs.declared.steps.vocabulary.End.TheVariants.{Done}
+use Rattle.bloom_steps.specs.Scripts.{Each, Linked, Taken}
+use Rattle.bloom_steps.specs.LiveSteps.{IsMade, WasInserted}
+use Rattle.bloom_steps.proofs.TakenLemmas.{taken-count}
+use Rattle.fastbloom.specs.Shared.{HasFormFor, HasFormOf, HaveSameShape, MakesInserts, TakesWords}
+use Rattle.fastbloom.proofs.Cases.{only, plain, shared}
 
--- a filter with this number of words and of hashes, under any name, whose hasher is a number
-abbrev pub filter : ℕ → ℕ → ℕ → SharedFilter ℕ
-filter name words hashes = record {
-  words = record { name = name; count = words };
-  hashes = hashes;
+-- names make no difference to the shape, and numbers of words and of hashes do
+same_shape : HaveSameShape (shared 1 2 3) (shared 4 2 3)
+    × (HaveSameShape (shared 1 2 3) (shared 1 3 3) → ⊥)
+    × (HaveSameShape (shared 1 2 3) (shared 1 2 4) → ⊥)
+same_shape = (
+  record { words = refl; hashes = refl },
+  λ same. omega (arith, same.words),
+  λ same. omega (arith, same.hashes),
+)
+
+-- the form is that of the words at the beginning, their number, the hashes and the hasher
+form_of : (BeganWith (shared 1 2 3).words (5 ∷ 6 ∷ [])
+    → HasFormOf (shared 1 2 3) (plain (5 ∷ 6 ∷ []) 7))
+    × (HasFormOf (shared 1 2 3) (plain (5 ∷ 6 ∷ []) 7)
+    → BeganWith (shared 1 2 3).words (5 ∷ 6 ∷ []))
+    × (HasFormOf (shared 1 2 4) (plain (5 ∷ 6 ∷ []) 7) → ⊥)
+    × (HasFormOf (shared 1 2 3) (plain (5 ∷ 6 ∷ []) 8) → ⊥)
+    × (HasFormOf (shared 1 1 3) (plain (5 ∷ 6 ∷ []) 7) → ⊥)
+form_of = (
+  λ began. record { began = began; words = refl; hashes = refl; hasher = refl },
+  λ form. form.began,
+  λ form. omega (arith, form.hashes),
+  λ form. omega (arith, form.hasher),
+  λ form. omega (arith, form.words),
+)
+
+-- a builder of the rate one half, whose hasher is the number 7
+abbrev half : RateStart ℕ
+half = record {
+  rate = record { num = 1; den = 2; num_above = lit< tt; den_above = lit< tt };
   hasher = 7;
 }
 
--- names and hashers make no difference to the shape
-same-shape : HaveSameShape (filter 1 2 3) (filter 4 2 3)
-same-shape = record { words = refl; hashes = refl }
+module _ (one : IsHalvings 1 2 64) where
+  -- the size for 1000 items at one half is 1448 bits and nothing else
+  bits-half : (bits : ℕ) → IsSizeOf half 1000 bits → bits ≡ 1448
+  bits-half bits sized =
+      let few = sized.1.least 64 one.enough in
+      let many = one.least sized.0 sized.1.enough in
+      let same : sized.0 ≡ 64 = omega (arith, few, many) in
+      sized.2 ∙ ap (size_for 1000) same
 
--- filters with different numbers of words have different shapes
-other-words : HaveSameShape (filter 1 2 3) (filter 1 3 3) → ⊥
-other-words same = omega (arith, same.words)
+  -- so 1000 items at one half have 23 words, which began as zeros, and one hash: not 24 words, nor
+  -- two hashes. And no item counts as one, which 44 hashes suit
+  form_for : (BeganWith (shared 1 23 1).words (replicate 23 0)
+      → HasFormFor half 1000 (shared 1 23 1))
+      × (HasFormFor half 1000 (shared 1 24 1) → ⊥)
+      × (HasFormFor half 1000 (shared 1 23 2) → ⊥)
+      × (HasFormFor half 1000 (shared 1 23 1) → BeganWith (shared 1 23 1).words (replicate 23 0))
+      × (BeganWith (shared 1 1 44).words (0 ∷ []) → HasFormFor half 0 (shared 1 1 44))
+  form_for = (
+    λ began. (
+      1448,
+      (64, one, refl),
+      record { began = began; words = refl; hashes = refl; hasher = refl },
+    ),
+    λ form. (let wrong : 24 ≡ 23 = form.2.words
+        ∙ ap (λ b. length (replicate (words_for b) 0)) (bits-half form.0 form.1) in
+        omega (arith, wrong)),
+    λ form. (let wrong : 2 ≡ 1 = form.2.hashes
+        ∙ ap (λ b. (sized_filter (empty_start half b) 1000).hashes) (bits-half form.0 form.1) in
+        omega (arith, wrong)),
+    λ form. subst (λ b. BeganWith (shared 1 23 1).words (replicate (words_for b) 0))
+        (bits-half form.0 form.1) form.2.began,
+    λ began. (
+      64,
+      (64, one, refl),
+      record { began = began; words = refl; hashes = refl; hasher = refl },
+    ),
+  )
 
--- filters with different numbers of hashes have different shapes
-other-hashes : HaveSameShape (filter 1 2 3) (filter 1 2 4) → ⊥
-other-hashes same = omega (arith, same.hashes)
+-- the hash of a number under a hasher that is a number
+abbrev sum : ℕ → ℕ → ℕ
+sum hasher item = hasher + item
 
--- a plain filter of two words, which are looked at by their number alone
-abbrev plain : ℕ → Filter ℕ
-plain hasher = record { words = 5 ∷ 6 ∷ []; hashes = 3; hasher = hasher }
+-- a list of two items has an insert of each, of its hash under the filter's hasher, here 7, and the
+-- second begins in the turn to which the first led
+inserts : (name : ℕ) → let f = shared name 1 1 in
+    MakesInserts sum f []
+    × (WasInserted f.words 1 10 1 2 → WasInserted f.words 1 11 2 3
+    → MakesInserts sum f (3 ∷ 4 ∷ []))
+    × ((all : MakesInserts sum f (3 ∷ 4 ∷ []))
+    → (mid : ℕ) × WasInserted f.words 1 10 all.first mid × WasInserted f.words 1 11 mid all.last)
+    × ((all : MakesInserts sum f []) → all.last ≡ all.first)
+inserts name = (
+  record { first = 3; last = 3; each = refl },
+  λ one two. record { first = 1; last = 3; each = (2, one, (3, two, refl)) },
+  λ all. (let (mid, one, (last, two, end)) = all.each in
+      (mid, one, subst (WasInserted (shared name 1 1).words 1 11 mid) (sym end) two)),
+  λ all. all.each,
+)
 
--- the form is that of the words at the beginning, their number, the hashes and the hasher
-same-form : BeganWith (filter 1 2 3).words (5 ∷ 6 ∷ []) → HasFormOf (filter 1 2 3) (plain 7)
-same-form began = record { began = began; words = refl; hashes = refl; hasher = refl }
-
--- a form tells with which words the filter began
-began-form : HasFormOf (filter 1 2 3) (plain 7) → BeganWith (filter 1 2 3).words (5 ∷ 6 ∷ [])
-began-form form = form.began
-
--- a filter with another number of hashes has another form
-hash-more : HasFormOf (filter 1 2 4) (plain 7) → ⊥
-hash-more form = omega (arith, form.hashes)
-
--- a filter with another hasher has another form
-other-hasher : HasFormOf (filter 1 2 3) (plain 8) → ⊥
-other-hasher form = omega (arith, form.hasher)
-
--- a filter with one word less has another form
-word-short : HasFormOf (filter 1 1 3) (plain 7) → ⊥
-word-short form = omega (arith, form.words)
-
--- what holds of the one member of a list holds of each
-pub only : (P : ℕ → Taken → Type 0) (t : Taken) → P 0 t → Each (t ∷ []) P
-only P t holds zero u got = subst (P 0) (same_Some t u got) holds
-only P t holds (suc i) u got = absurd (none-some u got)
-
--- an insert of hash 0 into one word with one hash, which found a word
-abbrev one_or : ℕ → Bool → List Taken
-one_or found reply = record { step = Or 0 1; found = found; ended = Answer reply } ∷ []
-
--- an insert whose one step found its bit clear replies false
-insert-of-new : (name turn next : ℕ) → InTurn (FoundByOr (filter name 1 1).words 0 1 0) turn next
-    → MakesCallOn (filter name 1 1).words (filter name 1 1).words 1 (Insert 0) (Some false)
-unfolding chain
-insert-of-new name turn next made = record {
-  taken = one_or 0 false;
-  script = record {
-    count = refl;
-    steps = only _ _ refl;
-    stops = tt;
-    running = only _ _ (λ early. absurd (omega (arith, early)));
-    last = only _ _ (λ last. (false, refl, (λ e. (0, _, refl, refl), λ any. refl)));
-  };
-  first = turn;
-  last = next;
-  made = (next, made, refl);
-  answers = refl;
-}
-
--- an insert has a reply
-insert-replies : (name hash : ℕ)
-    → MakesCallOn (filter name 1 1).words (filter name 1 1).words 1 (Insert hash) None → ⊥
-insert-replies name hash calls =
-    let some = insert-answers 1 1 hash calls.taken (omega arith) calls.script in
-    none-some some.0 (calls.answers ∙ some.1)
-
--- a clear has no reply
-clear-is-silent : (name : ℕ) (reply : Bool)
-    → MakesCallOn (filter name 2 1).words (filter name 2 1).words 1 Clear (Some reply) → ⊥
-clear-is-silent name reply calls =
-    none-some reply (sym (calls.answers ∙ silent calls.taken calls.script.last))
-
--- by an insert each position of its hash was set, in the filter's own words
-pub insert-sets-each : {S : Type 0} (f : SharedFilter S) (hash : ℕ) (reply : Bool)
-    → MakesCallOn f.words f.words f.hashes (Insert hash) (Some reply) → (i : ℕ) → i < f.hashes
-    → let p = place (64 * f.words.count) hash i in
-    (found : ℕ) × FoundByOr f.words (p / 64) (2 ^ (p % 64)) found
-insert-sets-each f hash reply calls i within =
-    let at = member calls.taken i (omega (arith, within, calls.script.count)) in
-    let made = made-at f.words f.words calls.first calls.last calls.taken calls.made i at.0 at.1
-    in (
-      at.0.found,
-      made-in_turn made.0 made.1
-          (subst (λ step. IsMade f.words f.words made.0 step at.0.found made.1)
-          (calls.script.steps i at.0 at.1) made.2),
-    )
-
--- by a clear each word was made 0
-clear-zeroes-each : {S : Type 0} (f : SharedFilter S)
-    → MakesCallOn f.words f.words f.hashes Clear None
-    → (i : ℕ) → i < f.words.count → MadeZero f.words i
-clear-zeroes-each f calls i within =
-    let at = member calls.taken i (omega (arith, within, calls.script.count)) in
-    let made = made-at f.words f.words calls.first calls.last calls.taken calls.made i at.0 at.1 in
-    made-in_turn made.0 made.1
-    (subst (λ step. IsMade f.words f.words made.0 step at.0.found made.1)
-    (calls.script.steps i at.0 at.1) made.2).0
-
--- by a union each word of the other was loaded, and what was found was set here
-union-loads-the-other : {S : Type 0} (f other : SharedFilter S)
-    → MakesCallOn f.words other.words f.hashes Union None
-    → (i : ℕ) → i < f.words.count
-    → (x : ℕ) × (found : ℕ) × FoundByLoad other.words i x × FoundByOr f.words i x found
-union-loads-the-other f other calls i within =
-    let count = calls.script.count in
-    let load = member calls.taken (2 * i) (omega (arith, within, count)) in
-    let write = member calls.taken (2 * i + 1) (omega (arith, within, count)) in
-    let loads = calls.script.steps.loads i load.0 load.1 in
-    let writes = calls.script.steps.writes i load.0 write.0 load.1 write.1 in
-    let made = made-at f.words other.words calls.first calls.last calls.taken calls.made in
-    let one = made (2 * i) load.0 load.1 in
-    let two = made (2 * i + 1) write.0 write.1 in (
-      load.0.found,
-      write.0.found,
-      made-in_turn one.0 one.1
-          (subst (λ step. IsMade f.words other.words one.0 step load.0.found one.1) loads one.2),
-      made-in_turn two.0 two.1
-          (subst (λ step. IsMade f.words other.words two.0 step write.0.found two.1) writes two.2),
-    )
-
--- two filters of one word are found alike where a load of either found the same word
-found-alike : FoundByLoad (filter 1 1 3).words 0 5 → FoundByLoad (filter 2 1 3).words 0 5
-    → WereFoundAlike (filter 1 1 3) (filter 2 1 3)
-found-alike here there = record {
-  shape = record { words = refl; hashes = refl };
-  words = λ i within. subst
-      (λ j. (found : ℕ) × FoundByLoad (filter 1 1 3).words j found
-      × FoundByLoad (filter 2 1 3).words j found)
-      (omega (arith, within)) (5, here, there);
-}
-
--- where two filters are found alike, one word was loaded of both at each index
-alike-loaded : WereFoundAlike (filter 1 2 3) (filter 2 2 3)
-    → (found : ℕ) × FoundByLoad (filter 1 2 3).words 1 found
-    × FoundByLoad (filter 2 2 3).words 1 found
-alike-loaded alike = alike.words 1 (omega arith)
-
--- filters of other hash counts are never found alike
-hashes-differ : WereFoundAlike (filter 1 1 3) (filter 2 1 4) → ⊥
-hashes-differ alike = omega (arith, alike.shape.hashes)
-
--- two filters are found to differ where loads at one index found different words
-found-to-differ : FoundByLoad (filter 1 1 3).words 0 5 → FoundByLoad (filter 2 1 3).words 0 6
-    → WereFoundToDiffer (filter 1 1 3) (filter 2 1 3)
-found-to-differ here there =
-    record {
-      index = 0;
-      found = 5;
-      other = 6;
-      here = here;
-      there = there;
-      differ = λ e. omega (arith, e);
-    }
-
--- words that differ were loaded of both filters, at one index
-differ-loaded : WereFoundToDiffer (filter 1 1 3) (filter 2 1 3)
-    → (i : ℕ) × (found : ℕ) × (other : ℕ) × FoundByLoad (filter 1 1 3).words i found
-    × FoundByLoad (filter 2 1 3).words i other × (found ≢ other)
-differ-loaded differ =
-    (differ.index, differ.found, differ.other, differ.here, differ.there, differ.differ)
-
--- words that are equal don't differ
-equal-words : (differ : WereFoundToDiffer (filter 1 1 3) (filter 2 1 3))
-    → differ.found ≡ differ.other → ⊥
-equal-words differ same = differ.differ same
+-- a take of one word gives the word that its swap found, and no fewer
+takes : (name turn next word : ℕ)
+    → (InTurn (FoundBySwap (shared name 1 1).words 0 word) turn next
+    → TakesWords (shared name 1 1) (word ∷ []))
+    × (TakesWords (shared name 1 1) (word ∷ []) → FoundBySwap (shared name 1 1).words 0 word)
+    × (TakesWords (shared name 1 1) [] → ⊥)
+takes name turn next word = (
+  λ made. record {
+    made = record {
+      taken = record { step = Take 0; found = word; ended = Done } ∷ [];
+      script = record {
+        count = refl;
+        steps = only _ _ refl;
+        stops = tt;
+        running = only _ _ (λ early. absurd (omega (arith, early)));
+        last = only _ _ (λ last. refl);
+      };
+      first = turn;
+      last = next;
+      made = (next, made, refl);
+      answers = refl;
+    };
+    found = refl;
+  },
+  λ takes. found takes.made.taken takes.made.first takes.made.last takes.found
+      takes.made.script.steps takes.made.made,
+  λ takes. (let count = taken-count _ _ _ takes in omega (arith, count)),
+)
+  where
+    found : (s : List Taken) (first last : ℕ) → word ∷ [] ≡ map (λ t. t.found) s
+        → Each s (λ i t. t.step ≡ Take i)
+        → Linked (IsMade (shared name 1 1).words (shared name 1 1).words) first s last
+        → FoundBySwap (shared name 1 1).words 0 word
+    found [] first last same steps made = absurd (omega (arith, ap length same))
+    found (t ∷ rest) first last same steps made =
+        let words = (shared name 1 1).words in
+        let is : t.found ≡ word = sym (ap (λ l. get_or l 0 0) same) in
+        subst (FoundBySwap words 0) is
+        (made-in_turn first made.0
+        (subst (λ step. IsMade words words first step t.found made.0) (steps 0 t refl) made.1))

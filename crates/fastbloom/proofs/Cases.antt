@@ -1,13 +1,48 @@
--- The passes of which the facts speak, and the members of short lists.
-use Rattle.std.proofs.Common.{◌≡◌, ℕ, ◌/◌, ◌%◌, ◌^◌, ◌<◌, true, false, eqb, List, [], ◌∷◌, inl, inr, refl, sym, ap, ◌∙◌, arith}
+-- Filters and passes that the facts of this crate share, and the members of short lists.
+use Rattle.std.proofs.Common.{◌≡◌, ℕ, zero, suc, ◌/◌, ◌%◌, ◌^◌, ◌<◌, true, false, eqb, List, [], ◌∷◌, inl, inr, refl, sym, ap, ◌∙◌, subst, arith, lit<, lit≤}
 use Rattle.std.proofs.Math.Bool.{or-false}
 use Rattle.std.proofs.lemmas.Bool.{both_ways, cases_lt, eqb-true}
+use Rattle.std.proofs.lemmas.Option.{none-some, same_Some}
 use Rattle.atomic_table.specs.Seated.{TableId}
 use Rattle.bloom_parts.specs.Content.{bit_is_on, content}
 use Rattle.bloom_parts.proofs.PublishedLemmas.{bit_is_on-mask, content-past}
-use Rattle.fastbloom.specs.Sets.{set_of}
+use Rattle.bloom_plain.specs.Filter.{Filter}
+use Rattle.bloom_steps.specs.Scripts.{Taken, Each}
+use Rattle.fastbloom.specs.declared.parallel.shape.Shape.{Shape}
 use Rattle.fastbloom.specs.Passes.{SeatedFilter, Sight, IsSamePass}
+use Rattle.fastbloom.specs.Sets.{set_of}
+use Rattle.fastbloom.specs.Shared.{SharedFilter}
 use Rattle.fastbloom.proofs.SeatedLemmas.Words.{content-word}
+
+-- a plain filter of these words, of three hashes, whose hasher is a number
+abbrev pub plain : List ℕ → ℕ → Filter ℕ
+plain words hasher = record { words = words; hashes = 3; hasher = hasher }
+
+-- the shape of one word and three hashes
+abbrev pub shape : Shape
+shape = record {
+  num_words = 1;
+  num_hashes = 3;
+  is_shape = record {
+    some_words = lit≤ tt;
+    few_words = lit< tt;
+    some_hashes = lit≤ tt;
+    few_hashes = lit< tt;
+  };
+}
+
+-- a shared filter of this many words and hashes, under a name, whose hasher is a number
+abbrev pub shared : ℕ → ℕ → ℕ → SharedFilter ℕ
+shared name words hashes = record {
+  words = record { name = name; count = words };
+  hashes = hashes;
+  hasher = 7;
+}
+
+-- what holds of the one member of a list holds of each
+pub only : (P : ℕ → Taken → Type 0) (t : Taken) → P 0 t → Each (t ∷ []) P
+only P t holds zero u got = subst (P 0) (same_Some t u got) holds
+only P t holds (suc i) u got = absurd (none-some u got)
 
 -- a table of this many words, told from others by its name
 abbrev pub table : ℕ → ℕ → TableId
@@ -21,7 +56,10 @@ table words name = record {
   slot_names = [];
 }
 
--- a pass of the table 7 of one word
+-- a seated filter of one word and two hashes, and a pass of it
+abbrev pub seated : SeatedFilter
+seated = record { table = table 1 7; hashes = 2; passes = 2 }
+
 abbrev pub pass : ℕ → List ℕ → List ℕ → Sight
 pass start known gained = record {
   filter = table 1 7;
@@ -59,7 +97,3 @@ single-from q p small on = elim (cases_lt (p / 64) 1) [
 -- below one there is nothing but zero
 pub only-first : (i : ℕ) → i < 1 → i ≡ 0
 only-first i below = omega arith
-
--- a filter of one word and two hashes
-abbrev pub filter : SeatedFilter
-filter = record { table = table 1 7; hashes = 2; passes = 2 }
