@@ -4,8 +4,8 @@
 //!
 //! - `atomic`: `AtomicBloomFilter`, with its items, sets, words (`all_words`), data and rates.
 //! - `builder`: its builders, over the plain ones.
-//! - `parallel`: `fill`, by which workers fill one filter: its shape (`shape`), the gate that each
-//!   passes (`gate`), the work of one (`job`) and of all (`workers`).
+//! - `parallel`: `fill`, by which workers fill one filter: its shape (`shape`), the work of one, and
+//!   the gate that it passes (`job`), and the work of all (`workers`).
 //! - `seated`: `SeatedBloomFilter`, whose words lie in a table of `atomic_table`: its calls
 //!   (`filter`), its rule (`rule`), the steps of passes (`steps`) and their loops (`looks`), how it
 //!   begins (`opening`, `passes`), how passes meet (`meetings`), and how it ends (`closing`).
@@ -13,11 +13,20 @@
 #![tactic(auto)]
 
 mod atomic;
-pub mod blocked_laws;
 mod builder;
 pub mod laws;
 mod parallel;
 mod seated;
+
+/// The laws of blocked filters. These functions do nothing: their contracts are the laws.
+pub mod blocked_laws {
+    pub use bloom_blocked::laws::{
+        clear_contains_nothing, contained_stays, insert_answers_contains, interleavings_in_lines,
+        intersection_contains, many_are_as_one_by_one, positions_of_hash, test_of_hash,
+        union_contains,
+    };
+    pub use bloom_files::laws::file_reads_back;
+}
 
 pub use atomic::AtomicBloomFilter;
 pub use bloom_blocked::{

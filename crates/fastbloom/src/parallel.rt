@@ -4,14 +4,13 @@ ghost use Rattle.std.specs.List.{concat};
 ghost use Rattle.bloom_parts.specs.Keys.{HasKey};
 ghost use Rattle.fastbloom.specs.Fill.{IsFilledWith};
 
-mod gate;
 mod job;
 mod shape;
 mod workers;
 
 use bloom_parts::error::FilterError;
 use bloom_plain::BloomFilter;
-pub use gate::Gate;
+pub use job::Gate;
 pub use shape::Shape;
 use std::alloc::Global;
 use std::sync::Arc;

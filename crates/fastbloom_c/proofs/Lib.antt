@@ -2,7 +2,6 @@ mod BlockedPlanLemmas
 mod Fields
 mod FileFacts
 mod ItemFacts
-mod ItemLemmas
 mod LineAloneLemmas
 mod NoWordLemmas
 mod PassedFacts

@@ -62,16 +62,10 @@ module _ (v : SharedWords) where
   )
 
   -- so it is in lines
-  looks_in_lines-tell : TellsLooksInLines v 1 [] (0 ∷ [])
-      × (TellsLooksInLines v 1 (5 ∷ 6 ∷ []) (2 ∷ [])
-      → LooksInLine v 1 5 false × LooksInLine v 1 6 true)
-      × (TellsLooksInLines v 1 (5 ∷ []) (2 ∷ []) → ⊥)
+  looks_in_lines-tell : TellsLooksInLines v 1 (5 ∷ 6 ∷ []) (2 ∷ [])
+      → LooksInLine v 1 5 false × LooksInLine v 1 6 true
   unfolding content
-  looks_in_lines-tell = (
-    record { each = λ i within. absurd (omega (arith, within)); rest = λ i _. content-zeros 1 i },
-    λ told. (told.each 0 (omega arith), told.each 1 (omega arith)),
-    λ told. both_ways false refl (sym (told.rest 1 (omega arith))),
-  )
+  looks_in_lines-tell told = (told.each 0 (omega arith), told.each 1 (omega arith))
 
   -- a bit that is set tells that the insert set a bit, and one that is clear that it set none; the
   -- second insert began at the turn to which the first led; a bit with no hash is clear
@@ -92,18 +86,8 @@ module _ (v : SharedWords) where
   )
 
   -- so it is in lines
-  inserts_in_lines-tell : TellsSetsInLines v 1 [] (0 ∷ [])
-      × ((told : TellsSetsInLines v 1 (5 ∷ 6 ∷ []) (1 ∷ []))
+  inserts_in_lines-tell : (told : TellsSetsInLines v 1 (5 ∷ 6 ∷ []) (1 ∷ []))
       → SetsInTurn v 1 5 false (told.turns 0) (told.turns 1)
-      × SetsInTurn v 1 6 true (told.turns 1) (told.turns 2))
-      × (TellsSetsInLines v 1 [] (1 ∷ []) → ⊥)
+      × SetsInTurn v 1 6 true (told.turns 1) (told.turns 2)
   unfolding content
-  inserts_in_lines-tell = (
-    record {
-      turns = λ i. i;
-      each = λ i within. absurd (omega (arith, within));
-      rest = λ i _. content-zeros 1 i;
-    },
-    λ told. (told.each 0 (omega arith), told.each 1 (omega arith)),
-    λ told. both_ways false refl (sym (told.rest 0 (omega arith))),
-  )
+  inserts_in_lines-tell told = (told.each 0 (omega arith), told.each 1 (omega arith))

@@ -4,8 +4,7 @@ ghost use Rattle.std.specs.List.{concat};
 ghost use Rattle.bloom_parts.specs.Keys.{HasKey};
 ghost use Rattle.fastbloom.specs.Fill.{IsFilledWith};
 
-use super::gate::Gate;
-use super::job::{Job, NoThread, Worker, start};
+use super::job::{Gate, Job, NoThread, Worker, start};
 use super::shape::Shape;
 use bloom_plain::BloomFilter;
 use std::alloc::{AllocError, Global};
