@@ -25,14 +25,17 @@ ODD_LINES = rb"""
 | |i|c|I 1|C 1|Z|W|x|x 1|zz|z | z|z 1|w | w|w 0|ww|i1|i  1| i 1|i 1 |i\t1|i 1 2|i 1c 1|i=1|i\x001
 |i\x0b1|i\xa01|i\xc2\xa01|\xef\xbb\xbfi 1|z\r|w\r|\r|\0|\xff|z\0|w\xff|i 1\x0c|i 1\xc2\x85|#|q
 |i 1\xe2\x80\xa8c 1|insert 1|i 1\\n|"i 1"|\xd1\x96 1"""
-ODD_ARGUMENTS = rb"""
-0|1048577|4294967295|4294967296|-h|--help|-V|--version|--|-v|one"""
+ODD_ARGUMENTS = rb"0|1048577|4294967295|4294967296|-h|--help|-V|--version|--|-v|one"
 
 
 def read(texts):
-    """The texts of a table, with their escapes."""
+    """Draws one of the texts of a table, in which they have escapes."""
     text = texts.replace(b'\n', b'').decode('unicode_escape').encode('latin-1')
-    return text.split(b'|')
+    return draw.sampled_from(text.split(b'|'))
+
+
+def ranges(*ends):
+    return draw.one_of(*(draw.integers(*it) for it in ends))
 
 
 def digits(values):
@@ -41,58 +44,32 @@ def digits(values):
     return draw.builds(lambda value, width: (b'%d' % value).rjust(width, b'0'), values, width)
 
 
-ODD_NUMBER = draw.sampled_from(read(ODD_NUMBERS))
-ODD_ARGUMENT = draw.sampled_from(
-    [it for it in read(ODD_ARGUMENTS) + read(ODD_NUMBERS) if b'\0' not in it]
-)
-WORDS = draw.one_of(
-    draw.integers(1, 4),
-    draw.integers(1, 40),
-    draw.integers(41, 5000),
-    draw.sampled_from([1, 2, MOST_WORDS - 1, MOST_WORDS]),
-)
-HASHES = draw.one_of(
-    draw.integers(0, 3),
-    draw.integers(0, 12),
-    draw.integers(13, 130),
-    draw.sampled_from([1, 7, 1000, 2**31, MOST_HASHES - 1, MOST_HASHES]),
-)
+WORDS = ranges((1, 4), (1, 40), (41, 5000), (MOST_WORDS - 1, MOST_WORDS))
+HASHES = ranges((0, 3), (0, 12), (13, 130), (999, 999), (MOST_HASHES - 1, MOST_HASHES))
+LETTERS = draw.sampled_from([b'i ', b'c '])
 
 
 def sources(words):
     """Hashes: any, small ones, those at an edge, and at the first of a position."""
-    size = 64 * words
-    return draw.one_of(
-        draw.integers(0, WORD - 1),
-        draw.integers(0, 19),
-        draw.sampled_from([2**32 - 1, 2**32, 2**63 - 1, 2**63, WORD - 2, WORD - 1]),
-        draw.builds(
-            lambda place, less: (-(-place * WORD // size) - less) % WORD,
-            draw.integers(0, size - 1),
-            draw.integers(0, 1),
-        ),
-    )
+    places = draw.integers(0, 64 * words - 1).map(lambda it: -(-it * WORD // (64 * words)))
+    edges = draw.sampled_from([0, 2**32, 2**63]) | places
+    below = draw.builds(lambda it, less: (it - less) % WORD, edges, draw.integers(0, 2))
+    return ranges((0, WORD - 1), (0, 19)) | below
 
 
-def odd_lines(line):
+def odd_lines(lines):
     """Lines that may be wrong, among them good ones with a byte changed, put in or left out."""
     near = draw.builds(
-        lambda it, at, byte, rest: it[: at % (len(it) + 1)]
-        + byte
-        + it[at % (len(it) + 1) + rest :],
-        line,
-        draw.integers(0, 30),
+        lambda it, at, byte, more: it[:at] + byte + it[at + more :],
+        lines,
+        draw.integers(0, 24),
         draw.binary(max_size=1) | draw.sampled_from([b'0', b'\t', b'\r', b' ', b'+', b'-']),
         draw.integers(0, 1),
     )
-    long = draw.builds(
-        lambda head, byte, times: head + byte * times,
-        draw.sampled_from([b'i ', b'c ', b'z', b'']),
-        draw.sampled_from([b'0', b' ', b'7', b'\xff']),
-        draw.integers(19, 70000),
-    )
-    number = draw.builds(bytes.__add__, draw.sampled_from([b'i ', b'c ']), ODD_NUMBER)
-    return draw.one_of(near, draw.sampled_from(read(ODD_LINES)), number, draw.binary(), long)
+    bytes_of_it = draw.sampled_from([b'0', b' ', b'7', b'\xff'])
+    many = draw.builds(bytes.__mul__, bytes_of_it, draw.integers(19, 70000))
+    pairs = draw.builds(bytes.__add__, LETTERS, read(ODD_NUMBERS) | many)
+    return near | pairs | read(ODD_LINES) | draw.binary() | many
 
 
 @draw.composite
@@ -102,18 +79,14 @@ def sessions(pick):
     words, hashes = pick(WORDS), pick(HASHES)
     arguments = [pick(digits(draw.just(it))) for it in (words, hashes)]
     used = pick(draw.lists(sources(words), min_size=1, max_size=9))
-    letters = b'iiicccz' + (b'w' if words < 5000 else b'')
-    if hashes > 5000:
-        letters = b'z'
-    number = digits(draw.sampled_from(used) | sources(words))
-    line = draw.builds(
-        lambda letter, it: b'%c' % letter + (b' ' + it if letter in b'ic' else b''),
-        draw.sampled_from(letters),
-        number,
-    )
+    numbers = digits(draw.sampled_from(used) | sources(words))
+    line = whole = draw.sampled_from([b'z', b'w'] if words < 5000 else [b'z'])
+    if hashes <= 5000:
+        pairs = draw.builds(bytes.__add__, LETTERS, numbers)
+        line = draw.integers(0, 14).flatmap(lambda it: pairs if it else whole)
     lines = pick(draw.lists(line, max_size=60))
     if hashes <= 12 and pick(draw.integers(0, 40)) == 1:
-        lines *= 200
+        lines *= 100
     lines += [b'w'] if words <= 5000 else []
     if lines and kind != 'output fails' and hashes <= 5000 and pick(draw.booleans()):
         for odd in pick(draw.lists(odd_lines(line), min_size=1, max_size=3)):
@@ -122,8 +95,9 @@ def sessions(pick):
     if kind != 'output fails' and pick(draw.integers(0, 4)) == 1:
         text = text[: -pick(draw.integers(1, 9))]
     if pick(draw.integers(0, 11)) == 1:
-        at = pick(draw.integers(0, 2))
-        arguments[at : at + pick(draw.integers(0, 1))] = pick(draw.lists(ODD_ARGUMENT, max_size=2))
+        at, odd = pick(draw.integers(0, 2)), read(ODD_ARGUMENTS) | read(ODD_NUMBERS)
+        odd = odd.filter(lambda it: b'\0' not in it)
+        arguments[at : at + pick(draw.integers(0, 1))] = pick(draw.lists(odd, max_size=2))
         text = b'z\n' if (model.shape(arguments) or (0, 0))[1] > 5000 else text
     return kind, arguments, text
 

@@ -10,6 +10,7 @@ use Rattle.bloom_parts.specs.Places.{IsPart, positions, are_in}
 use Rattle.bloom_blocked.specs.Blocked.{IsBlockedShape}
 use Rattle.bloom_blocked.specs.Lines.{line_of, inner_of, in_line, line_positions, are_in_line, IsLinePosition, LinePositionsLaw, LineSubsetLaw, LineRangeLaw, OneLineLaw}
 use Rattle.bloom_blocked.specs.Many.{positions_in_lines, lines_after, TellsFoundInLines, TellsNewInLines}
+use Rattle.bloom_parts.proofs.PublishedLemmas.{bits-next}
 use Rattle.bloom_blocked.proofs.BitLemmas.{word-where}
 use Rattle.bloom_blocked.proofs.Cases.{greatest, with_one, no-bit}
 
