@@ -24,12 +24,6 @@ share-some b k high some =
     cond-false (eqb high 0) 0 (raised (2 ^ 63) b k high)
     (ne_eqb high 0 (λ is. omega (arith, is, some)))
 
--- the greater share fits, and is near
-pub share-fits : (b k high : ℕ) → 0 < b → high ≤ 2 ^ 63 → share_above b k high ≤ 2 ^ 63
-share-fits b k zero some fits = omega arith
-share-fits b k (suc high) some fits =
-    rw (share-some b k (suc high) (omega arith)) (raised-fits (2 ^ 63) (suc high) b k some fits)
-
 share-near : (b k high : ℕ) → 0 < b →
     share_above b k high ≤ high + div_ceil (2 ^ 63 * (k - 1)) (2 * b)
 share-near b k zero some = omega arith
@@ -110,11 +104,6 @@ share-low b ones = div-mul-le_self (2 ^ 63 * ones) b
 
 pub share-high : (b ones : ℕ) → 0 < b → 2 ^ 63 * ones ≤ div_ceil (2 ^ 63 * ones) b * b
 share-high b ones some = (div_ceil_times (2 ^ 63 * ones) b some).0
-
--- the share of a part fits
-pub share-whole : (b ones : ℕ) → 0 < b → ones ≤ b → div_ceil (2 ^ 63 * ones) b ≤ 2 ^ 63
-share-whole b ones some few =
-    div_ceil-le (2 ^ 63 * ones) b (2 ^ 63) some (mul-le-mul_left (2 ^ 63) few)
 
 -- the roundings are one unit apart at most
 pub share-apart : (b ones : ℕ) → div_ceil (2 ^ 63 * ones) b ≤ 2 ^ 63 * ones / b + 1

@@ -16,9 +16,6 @@ halves i some =
     ap (λ n. 2 ^ n) next ∙ omega (arith, two-pow-succ (i - 1))
 
 module _ {passes : ℕ → Type 0} {found i : ℕ} (is : IsFound passes found i) (some : 0 < i) where
-  -- the next digit makes a number of 64 bits
-  pub next-fits : found + 2 ^ (i - 1) < 2 ^ 64
-  next-fits = omega (arith, is.fits, halves i some, pow_pos (i - 1))
 
   -- the next digit is 1
   pub found-one : passes (found + 2 ^ (i - 1)) → IsFound passes (found + 2 ^ (i - 1)) (i - 1)
@@ -56,21 +53,3 @@ module _ {passes now next : ℕ → Type 0} {count more found i : ℕ}
       let one = so_far.same n in
       let two = same n in
       (λ p. two.0 (one.0 p), λ p. one.1 (two.1 p))
-
-  -- the next digit is 1
-  pub searching-one : now (found + 2 ^ (i - 1))
-      → IsSearching passes next more (found + 2 ^ (i - 1)) (i - 1)
-  searching-one passed = record {
-    is_found = found-one so_far.is_found some ((so_far.same (found + 2 ^ (i - 1))).1 passed);
-    same = still;
-    tests = omega (arith, so_far.tests, tests, some);
-  }
-
-  -- the next digit is 0
-  pub searching-zero : (now (found + 2 ^ (i - 1)) → ⊥) → IsSearching passes next more found (i - 1)
-  searching-zero failed = record {
-    is_found = found-zero so_far.is_found some
-        (λ p. failed ((so_far.same (found + 2 ^ (i - 1))).0 p));
-    same = still;
-    tests = omega (arith, so_far.tests, tests, some);
-  }

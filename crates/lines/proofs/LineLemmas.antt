@@ -111,10 +111,6 @@ IsEnded-append end a b first second rest =
     ∙ sym (append_assoc (lines_by end a) (lines_by end b) (lines_by end rest))
     ∙ ap (λ l. l ++ lines_by end rest) (sym (first b))
 
--- the same of lines that byte 10 ends
-pub lines_of-nil : lines_of [] ≡ []
-lines_of-nil = lines_by-nil 10
-
 pub lines_of-front : (front rest : List ℕ) → has_no_end front ≡ true → 0 < length front
     → (line : List ℕ) × (later : List (List ℕ))
     × (lines_of (front ++ rest) ≡ (front ++ line) ∷ later)

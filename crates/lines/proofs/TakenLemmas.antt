@@ -102,13 +102,6 @@ IsReadWhole-from end (Some x) (Some y) (Some z) block lines p q =
       none_left = ap Some (nil-back block z none);
     }
 
--- all lines are the first ones
-pub IsReadFrom-whole : (end : ℕ) (read left : Option (List ℕ)) (lines : List (List ℕ))
-    → IsReadWholeBy end read left lines → IsReadFromBy end read lines
-IsReadFrom-whole end None left lines p = tt
-IsReadFrom-whole end (Some x) left lines p =
-    record { later = []; cut = p.are_lines ∙ sym (append-nil lines) }
-
 -- lines that were taken are the first ones
 pub IsReadFrom-taken : (end : ℕ) (read mid : Option (List ℕ)) (lines : List (List ℕ))
     → TakesLinesBy end read mid lines → IsReadFromBy end read lines
@@ -127,12 +120,6 @@ IsReadFrom-taken end (Some x) (Some y) lines p = at p.last
           ap (lines_by end) (p.cut ∙ ap (λ l. p.taken ++ l) none ∙ append-nil p.taken) ∙ p.are_lines
           ∙ sym (append-nil lines);
     }
-
--- lines before one that is too long are the first ones
-pub IsReadFrom-long : (end : ℕ) (longest : ℕ) (read : Option (List ℕ)) (lines : List (List ℕ))
-    → IsReadToLongBy end longest read lines → IsReadFromBy end read lines
-IsReadFrom-long end longest None lines p = tt
-IsReadFrom-long end longest (Some x) lines p = record { later = p.long ∷ p.later; cut = p.cut }
 
 -- the next line is too long
 pub IsReadToLong-from : (end : ℕ) (longest : ℕ) (read mid left : Option (List ℕ))

@@ -27,14 +27,6 @@ part-second first second from mid to wrote part = record {
   begins = Begins-after first second part.written part.begins;
 }
 
--- two texts were written, one after the other
-pub whole-both : {E : Type 0} (first second : List ℕ) (from mid to : Option (List ℕ))
-    (result : Result (Unit {0}) E) → Appends from mid first → OnOk result (Appends mid to second)
-    → OnOk result (Appends from to (first ++ second))
-whole-both first second from mid to (Ok unit) one two =
-    Appends-trans from mid to first second one two
-whole-both first second from mid to (Err error) one two = tt
-
 -- the first of two texts was written, and of the second as much as before the error
 pub part-both : {E : Type 0} (first second : List ℕ) (from mid to : Option (List ℕ))
     (result : Result (Unit {0}) E) → Appends from mid first

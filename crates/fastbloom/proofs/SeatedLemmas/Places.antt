@@ -42,17 +42,6 @@ inserts-next n hash i q old mid new a b both is both_is first second =
 module _ (n hash i q : ℕ) (old mid new : Sight) (answer : Bool) (is : q ≡ place n hash i)
     (first : Looks n hash i old mid) (beside : GrowsBeside n hash i old mid)
     (second : LooksAt q mid new answer) where
-  -- what was found before stays known
-  looks-kept : Looks n hash i old new
-  looks-kept = record {
-    same = record {
-      filter = second.same.filter ∙ first.same.filter;
-      start = second.same.start ∙ first.same.start;
-    };
-    gained = second.gained ∙ first.gained;
-    kept = λ p known. second.kept p (first.kept p known);
-    found = λ j below. second.kept (place n hash j) (first.found j below);
-  }
 
   -- what is new lies in a word that was loaded
   pub grows-next : GrowsBeside n hash (i + 1) old new
