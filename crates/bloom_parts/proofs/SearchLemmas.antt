@@ -16,7 +16,6 @@ halves i some =
     ap (λ n. 2 ^ n) next ∙ omega (arith, two-pow-succ (i - 1))
 
 module _ {passes : ℕ → Type 0} {found i : ℕ} (is : IsFound passes found i) (some : 0 < i) where
-
   -- the next digit is 1
   pub found-one : passes (found + 2 ^ (i - 1)) → IsFound passes (found + 2 ^ (i - 1)) (i - 1)
   found-one next = record {
@@ -42,14 +41,3 @@ pub record IsSearching (passes now : ℕ → Type 0) (count found i : ℕ) : Typ
   pub is_found : IsFound passes found i
   pub same : (n : ℕ) → passes n ↔ now n
   pub tests : count + i ≡ 64
-
--- one more test was made, which is still the same
-module _ {passes now next : ℕ → Type 0} {count more found i : ℕ}
-    (so_far : IsSearching passes now count found i) (some : 0 < i)
-    (same : (n : ℕ) → now n ↔ next n) (tests : more ≡ count + 1) where
-  -- it is the test that the search began with
-  still : (n : ℕ) → passes n ↔ next n
-  still n =
-      let one = so_far.same n in
-      let two = same n in
-      (λ p. two.0 (one.0 p), λ p. one.1 (two.1 p))
