@@ -8,4 +8,3 @@ pub mod LineRefusals
 pub mod LineSteps
 pub mod Lines
 pub mod Many
-pub mod SharedBlocked

@@ -1,6 +1,6 @@
 //! The blocked Bloom filter that threads share, and change without waiting for one another.
 ghost use Rattle.std.specs.Prelude.{◌≡◌, ◌*◌, ◌/◌, ◌≤◌, IfOk, IsOkUnless};
-ghost use Rattle.bloom_blocked.specs.SharedBlocked.{BeganAsLines};
+ghost use Rattle.bloom_plain.specs.SharedFilters.{HasFormOf};
 ghost use Rattle.bloom_blocked.specs.LineSteps.{LooksInLine, SetsInLine, SetsInTurn, WasSetInLine, WereSetInLines};
 ghost use Rattle.bloom_steps.specs.LiveSteps.{EachInTurn};
 
@@ -31,9 +31,9 @@ pub struct AtomicBlockedBloomFilter<S = DefaultHasher> {
 
 impl<S> Model for AtomicBlockedBloomFilter<S> {
     ghost use Rattle.std.specs.Prelude.{◌≡◌, ◌≤◌, ◌<◌, ◌^◌, ◌%◌};
-    ghost use Rattle.bloom_blocked.specs.SharedBlocked.{SharedBlockedFilter};
+    ghost use Rattle.bloom_plain.specs.SharedFilters.{SharedFilter};
 
-    ghost Value = { SharedBlockedFilter S };
+    ghost Value = { SharedFilter S };
 
     ghost view = { λ f. record { words = f.words; hashes = f.num_hashes; hasher = f.hasher } };
 
@@ -48,7 +48,7 @@ impl<S: Drop> AtomicBlockedBloomFilter<S> {
     /// # Errors
     /// `Memory` where there is no room for the words that threads share.
     pub fn from_plain(alloc: Global, plain: BlockedBloomFilter<S>) -> Result<Self, FilterError>
-        ensures form { IfOk result (λ filter. BeganAsLines filter plain) }
+        ensures form { IfOk result (λ filter. HasFormOf filter plain) }
         ensures refused { IsOkUnless result FilterError.Memory }
     {
         let words = AtomicBitVec::from_words(alloc, plain.as_slice().iter().copied())?;

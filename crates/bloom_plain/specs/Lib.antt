@@ -7,4 +7,5 @@ pub mod ListLaws
 pub mod Ones
 pub mod Queues
 pub mod Replies
+pub mod SharedFilters
 pub mod SourceHash

@@ -13,7 +13,7 @@ use Rattle.bloom_steps.specs.LiveSteps.{IsMade, MakesCallOn}
 use Rattle.bloom_steps.specs.Scripts.{Any, Each, Linked, Taken, answer_of_end}
 use Rattle.bloom_steps.specs.Steps.{or_at}
 use Rattle.bloom_steps.proofs.LiveLemmas.{insert-answers, last-of}
-use Rattle.fastbloom.specs.Shared.{SharedFilter}
+use Rattle.bloom_plain.specs.SharedFilters.{SharedFilter}
 use Rattle.fastbloom.proofs.Cases.{only, shared}
 
 -- a step is made on the filter's own words, but a load of the other's word on the other's

@@ -11,7 +11,7 @@ use Rattle.bloom_steps.specs.Scripts.{Taken, Each}
 use Rattle.fastbloom.specs.declared.parallel.shape.Shape.{Shape}
 use Rattle.fastbloom.specs.Passes.{SeatedFilter, Sight, IsSamePass}
 use Rattle.fastbloom.specs.Sets.{set_of}
-use Rattle.fastbloom.specs.Shared.{SharedFilter}
+use Rattle.bloom_plain.specs.SharedFilters.{SharedFilter}
 use Rattle.fastbloom.proofs.SeatedLemmas.Words.{content-word}
 
 -- a plain filter of these words, of three hashes, whose hasher is a number

@@ -8,7 +8,8 @@ use Rattle.bloom_parts.specs.Made.{SharedWords, BeganWith}
 use Rattle.bloom_parts.specs.Rates.{num_of, den_of}
 use Rattle.bloom_parts.specs.Sizing.{IsSizeFor, hashes_for}
 use Rattle.bloom_plain.specs.Builders.{RateStart, IsSizeOf, RefusesAs, size_refusal, words_for, sized_filter, empty_start}
-use Rattle.fastbloom.specs.Shared.{SharedFilter, HasFormOf, HasFormFor}
+use Rattle.fastbloom.specs.Shared.{HasFormFor}
+use Rattle.bloom_plain.specs.SharedFilters.{SharedFilter, HasFormOf}
 
 -- a builder's parts, which came out of the plain builder that it holds
 module _ {S : Type 0} (start plain : RateStart S) (of : plain ≡ start) where

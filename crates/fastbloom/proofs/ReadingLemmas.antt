@@ -6,7 +6,7 @@ use Rattle.std.specs.Iterator.Runs.{Run, YieldsRun}
 use Rattle.bloom_parts.specs.Made.{FoundByLoad, SharedWords}
 use Rattle.bloom_parts.specs.Reading.{Reading, ReadsNext}
 use Rattle.bloom_steps.specs.Loaded.{WereLoaded}
-use Rattle.fastbloom.specs.Shared.{SharedFilter}
+use Rattle.bloom_plain.specs.SharedFilters.{SharedFilter}
 
 -- a reading after some words: it stays on its vector, has gone on by as many words, and isn't past
 -- the last

@@ -9,7 +9,8 @@ use Rattle.bloom_steps.specs.declared.steps.vocabulary.End.TheVariants.{Done}
 use Rattle.bloom_steps.specs.Scripts.{Each, Linked, Taken}
 use Rattle.bloom_steps.specs.LiveSteps.{IsMade, WasInserted}
 use Rattle.bloom_steps.proofs.TakenLemmas.{taken-count}
-use Rattle.fastbloom.specs.Shared.{HasFormFor, HasFormOf, HaveSameShape, MakesInserts, TakesWords}
+use Rattle.fastbloom.specs.Shared.{HasFormFor, MakesInserts, TakesWords}
+use Rattle.bloom_plain.specs.SharedFilters.{HasFormOf, HaveSameShape}
 use Rattle.fastbloom.proofs.Cases.{only, plain, shared}
 
 -- names make no difference to the shape, and numbers of words and of hashes do

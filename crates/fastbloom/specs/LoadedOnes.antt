@@ -6,7 +6,7 @@ use Rattle.bloom_parts.specs.FalsePositives.{BoundsPositives}
 use Rattle.bloom_parts.specs.declared.math.bracket.Bracket.{Bracket}
 use Rattle.bloom_parts.specs.declared.math.estimate.Estimate.{Estimate}
 use Rattle.bloom_steps.specs.Loaded.{CountsLoaded}
-use Rattle.fastbloom.specs.Shared.{SharedFilter}
+use Rattle.bloom_plain.specs.SharedFilters.{SharedFilter}
 
 -- an estimate of the items in a filter, by how many bits were set in its words as they were loaded
 pub record EstimatesLoaded {S : Type 0} (f : SharedFilter S) (estimate : Estimate) : Type 0 where

@@ -31,7 +31,7 @@ pub struct AtomicBloomFilter<S = DefaultHasher> {
 
 impl<S> Model for AtomicBloomFilter<S> {
     ghost use Rattle.std.specs.Prelude.{◌≤◌, ◌<◌, ◌^◌};
-    ghost use Rattle.fastbloom.specs.Shared.{SharedFilter};
+    ghost use Rattle.bloom_plain.specs.SharedFilters.{SharedFilter};
 
     ghost Value = { SharedFilter S };
 

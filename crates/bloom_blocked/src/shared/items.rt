@@ -5,7 +5,7 @@ ghost use Rattle.std.specs.Iterator.{IsFiniteIterable};
 ghost use Rattle.std.specs.Iterator.Runs.{WholeRun};
 ghost use Rattle.bloom_plain.specs.SourceHash.{source_hash_of, lent_hash_of, IsFunctionOfBytes};
 ghost use Rattle.bloom_blocked.specs.LineSteps.{LooksInLine, SetsInLine};
-ghost use Rattle.bloom_blocked.specs.SharedBlocked.{MakesInsertsInLines};
+ghost use Rattle.bloom_blocked.specs.LineSteps.{MakesInsertsInLines};
 
 use super::AtomicBlockedBloomFilter;
 use crate::many::{LINES_TOGETHER, WORDS_TO_READ_AHEAD};

@@ -2,7 +2,8 @@
 ghost use Rattle.std.specs.Prelude.{◌≡◌, ◌⊎◌, ◌*◌, ◌≤◌, length, IfOk, IsOkUnless};
 ghost use Rattle.std.specs.Bool.{MatchBool};
 ghost use Rattle.bloom_parts.specs.Brackets.{low_of, high_of, width_of, HoldsRate, rate_low, rate_high};
-ghost use Rattle.fastbloom.specs.Shared.{BeganAsLoaded, HaveSameShape, TakesWords, WereFoundAlike, WereFoundToDiffer};
+ghost use Rattle.fastbloom.specs.Shared.{BeganAsLoaded, TakesWords, WereFoundAlike, WereFoundToDiffer};
+ghost use Rattle.bloom_plain.specs.SharedFilters.{HaveSameShape};
 
 use super::AtomicBloomFilter;
 use bloom_parts::bit_vector::{AtomicBitVec, AtomicWords};

@@ -9,7 +9,8 @@ ghost use Rattle.std.specs.Cmp.{on_equiv, partial_equiv_from_equiv};
 ghost use Rattle.bloom_parts.specs.Keys.{HasKey, key_low, key_high};
 ghost use Rattle.bloom_parts.specs.Made.{BeganWith};
 ghost use Rattle.bloom_plain.specs.Builders.{words_for, words_refusal, bits_refusal, RefusesAs, sized_filter, same_start};
-ghost use Rattle.fastbloom.specs.Shared.{HasFormOf, MakesInserts};
+ghost use Rattle.fastbloom.specs.Shared.{MakesInserts};
+ghost use Rattle.bloom_plain.specs.SharedFilters.{HasFormOf};
 ghost use Rattle.bloom_plain.specs.SourceHash.{lent_hash_of};
 
 use crate::atomic::AtomicBloomFilter;
