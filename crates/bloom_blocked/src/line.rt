@@ -54,7 +54,7 @@ pub fn set_in_line<W: TurnWords>(words: &W, num_hashes: u32, hash: u64) -> bool
 /// Whether all positions of a hash are found set in its line, one after the other, up to the first
 /// that isn't.
 #[inline(always)]
-pub fn looks_in_line<W: TurnWords>(words: &W, num_hashes: u32, hash: u64) -> bool
+pub fn look_up_in_line<W: TurnWords>(words: &W, num_hashes: u32, hash: u64) -> bool
     requires words { 8 ≤ (W.vector words.now).count }
     requires hashes { 1 ≤ num_hashes }
     ensures { LooksInLine (W.vector words.now) num_hashes hash result }

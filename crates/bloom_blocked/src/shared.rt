@@ -105,7 +105,7 @@ impl<S> AtomicBlockedBloomFilter<S> {
     pub fn contains_hash(&self, hash: u64) -> bool
         ensures { LooksInLine self.now.words self.now.hashes hash result }
     {
-        line::looks_in_line(&self.words.lent(), self.num_hashes, hash)
+        line::look_up_in_line(&self.words.lent(), self.num_hashes, hash)
     }
 
     // Sets all positions of a hash, from this turn on, and returns whether all were found set.

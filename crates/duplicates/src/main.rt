@@ -31,7 +31,7 @@ fn print(rt: &HostRuntime, error: &Error) -> u8 {
     }
 }
 
-// Tells that a value is none, and gives the status.
+// Says what the value of an option should have been, and returns the status.
 fn refuse(rt: &HostRuntime, text: &str) -> u8 {
     print(rt, &misuse(rt.alloc(), text))
 }

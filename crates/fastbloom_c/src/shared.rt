@@ -20,7 +20,7 @@ use bloom_steps::calls::{contains_hash, insert_hash};
 
 // Whether there are words, and at most 2^58 - 1.
 #[inline(always)]
-pub(crate) fn make_filter(num_words: usize) -> bool
+pub(crate) fn is_filter_size(num_words: usize) -> bool
     ensures { IsTrue result ↔ MakeFilter num_words }
 {
     num_words > 0 && num_words <= MAX_WORDS
@@ -40,7 +40,7 @@ pub extern "C" fn fastbloom_shared_insert_hash(
     ensures none { (MakeFilter words.len → ⊥) → result ≡ false }
 {
     let words = words.shared();
-    let accepted = make_filter(words.len());
+    let accepted = is_filter_size(words.len());
     let Some(words) = words.unless_refused(accepted) else {
         return false;
     };
@@ -92,7 +92,7 @@ pub extern "C" fn fastbloom_shared_contains_hash(
     ensures none { (MakeFilter words.len → ⊥) → result ≡ false }
 {
     let words = words.shared();
-    let accepted = make_filter(words.len());
+    let accepted = is_filter_size(words.len());
     let Some(words) = words.unless_refused(accepted) else {
         return false;
     };

@@ -7,7 +7,7 @@ ghost use Rattle.fastbloom_c.specs.Passed.{MakeFilter, vector_of};
 use crate::lent::LentWords;
 use crate::many::have_room;
 use crate::passed_words::{PassedWords, RawWords};
-use crate::shared::{found_hashes, make_filter};
+use crate::shared::{found_hashes, is_filter_size};
 use bloom_parts::bit_vector::Turn;
 use bloom_parts::slices::clear;
 use bloom_parts::slices::many::turn_on_where;
@@ -28,7 +28,7 @@ pub extern "C" fn fastbloom_shared_insert_hashes(
         → WereInserted (vector_of words.at words.len) (max 1 num_hashes) hashes.now }
 {
     let words = words.shared();
-    let accepted = make_filter(words.len());
+    let accepted = is_filter_size(words.len());
     let Some(words) = words.unless_refused(accepted) else {
         return false;
     };
@@ -42,7 +42,7 @@ pub extern "C" fn fastbloom_shared_insert_hashes(
 fn have_bits(num_words: usize, hashes: usize, bits: usize) -> bool
     ensures { IsTrue result ↔ (MakeFilter num_words × (hashes ≤ 64 * bits)) }
 {
-    make_filter(num_words) && have_room(num_words, hashes, bits)
+    is_filter_size(num_words) && have_room(num_words, hashes, bits)
 }
 
 // Looks up each of these hashes, and sets bit i where hash i was found, and no other.

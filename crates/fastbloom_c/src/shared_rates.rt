@@ -8,7 +8,7 @@ ghost use Rattle.fastbloom_c.specs.SharedRates.{BoundsWords, EstimatesWords};
 use crate::estimates::tell;
 use crate::lent::LentWords;
 use crate::passed_words::{PassedWords, RawWords};
-use crate::shared::make_filter;
+use crate::shared::is_filter_size;
 use bloom_parts::math::{Bracket, Estimate, estimated_items, false_pos_of_ones};
 use bloom_steps::calls::count_ones;
 
@@ -57,7 +57,7 @@ pub extern "C" fn fastbloom_shared_rate_now(
     *low = 0;
     *high = 0;
     let words = words.shared();
-    let accepted = make_filter(words.len());
+    let accepted = is_filter_size(words.len());
     let Some(words) = words.unless_refused(accepted) else {
         return false;
     };
@@ -86,7 +86,7 @@ pub extern "C" fn fastbloom_shared_estimate(
     *low = 0;
     *high = 0;
     let words = words.shared();
-    let accepted = make_filter(words.len());
+    let accepted = is_filter_size(words.len());
     let Some(words) = words.unless_refused(accepted) else {
         return false;
     };

@@ -7,7 +7,7 @@ ghost use Rattle.fastbloom_c.specs.Passed.{MakeFilter, vector_of};
 
 use crate::lent::LentWords;
 use crate::passed_words::PassedWords;
-use crate::shared::make_filter;
+use crate::shared::is_filter_size;
 use bloom_steps::calls::{clear, count_ones, intersect, load_into, take_into, union};
 
 /// Clears every position, one word after the other, and returns whether there are words.
@@ -18,7 +18,7 @@ pub extern "C" fn fastbloom_shared_clear(words: PassedWords) -> bool
         MakesCallOn vector vector 1 call.Clear None }
 {
     let words = words.shared();
-    let accepted = make_filter(words.len());
+    let accepted = is_filter_size(words.len());
     let Some(words) = words.unless_refused(accepted) else {
         return false;
     };
@@ -30,7 +30,7 @@ pub extern "C" fn fastbloom_shared_clear(words: PassedWords) -> bool
 fn are_as_many(num_words: usize, others: usize) -> bool
     ensures { IsTrue result ↔ (MakeFilter num_words × (others ≡ num_words)) }
 {
-    make_filter(num_words) && others == num_words
+    is_filter_size(num_words) && others == num_words
 }
 
 /// Sets what is found set in the other words, one word after the other, and returns whether it did.
@@ -122,7 +122,7 @@ pub extern "C" fn fastbloom_shared_count_ones(words: PassedWords) -> usize
     ensures none { (MakeFilter words.len → ⊥) → result ≡ 0 }
 {
     let words = words.shared();
-    let accepted = make_filter(words.len());
+    let accepted = is_filter_size(words.len());
     let Some(words) = words.unless_refused(accepted) else {
         return 0;
     };

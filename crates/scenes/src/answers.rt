@@ -1,6 +1,6 @@
 //! What both filters return from a call that takes no memory.
-use crate::making::Pair;
 use crate::scripted::Item;
+use crate::scripted_filters::Pair;
 use fastbloom::Rate;
 
 /// Whether the insert of a hash returns this.

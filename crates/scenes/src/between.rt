@@ -3,7 +3,7 @@
 ghost use Rattle.std.specs.Prelude.{◌-◌};
 ghost use Rattle.std.specs.Iterator.{at_most};
 
-use crate::telling::tell_row;
+use crate::row_reports::tell_row;
 use fastbloom::{
     AtomicBlockedBloomFilter, AtomicBloomFilter, BlockedBloomFilter, BloomFilter, FilterError,
 };

@@ -4,7 +4,7 @@ mod sessions;
 mod takes;
 mod threads;
 
-use crate::telling::tell_row;
+use crate::row_reports::tell_row;
 use fastbloom::{AtomicBlockedBloomFilter, BlockedBloomFilter, FilterError, Rate};
 use sessions::fold_ten;
 use std::alloc::Global;

@@ -1,7 +1,7 @@
 //! Filters that workers fill, each with a part of the hashes.
 
 use crate::drawn::{spread, spread_from};
-use crate::telling::tell_row;
+use crate::row_reports::tell_row;
 use fastbloom::{BloomFilter, FilterError, Gate, Shape, fill};
 use std::alloc::Global;
 use std::sync::Arc;

@@ -1,7 +1,7 @@
 //! Follows scripted tests: after each line both filters have the same words, hashes and hasher.
-use crate::making::{Pair, Refused, are_alike, have_words, pair_of, plain_of, shared_of};
+use crate::row_reports::{tell_named, tell_row};
 use crate::scripted::{Line, Make, Op, ScriptedTest, Size};
-use crate::telling::{tell_named, tell_row};
+use crate::scripted_filters::{Pair, Refused, are_alike, have_words, pair_of, plain_of, shared_of};
 use crate::{answers, memory, rows};
 use fastbloom::FilterError;
 use std::alloc::Global;

@@ -1,6 +1,6 @@
 //! Hashers, keys, and items of all types, at values from outside. Hashes of bytes under other keys
 //! are tested from Python.
-use crate::telling::tell_row;
+use crate::row_reports::tell_row;
 use fastbloom::{BloomFilter, DefaultHasher, FilterError, RandomDefaultHasher, Text};
 use std::alloc::Global;
 use std::hash::{Hash, Hasher};

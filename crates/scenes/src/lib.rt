@@ -2,13 +2,15 @@
 //! what no contract says.
 //!
 //! - `scripted`, `rows`: scripted tests, by tables. A row says how a plain and a shared filter are
-//!   made, and what both return from the same calls. `follow` makes them (`making`) and their calls
-//!   (`answers`, and `memory` for those that take some), and compares all words after each.
+//!   made, and what both return from the same calls. `follow` makes them (`scripted_filters`) and
+//!   their calls (`answers`, and `memory` for those that take some), and compares all words after
+//!   each.
 //! - `hashing`, `numbers`, `steps`: hashers, arithmetic and word steps at values from outside, or
 //!   worked out by hand.
 //! - `recorded`: calls on words that threads share, over words that write every operation down.
 //! - `concrete`: generic calls at concrete types.
-//! - `nothing`, `overstated`: a hasher and an iterator that are odd.
+//! - `odd_hasher`, `odd_iterator`: a hasher that tells no items apart, and an iterator that says
+//!   more than comes.
 //! - `blocked`, `growing`, `rotating`, `seated`, `fills`, `files`: one kind of filter, or its
 //!   files.
 //! - `between`: an iterator that clears the filter into which its items go.
@@ -17,8 +19,8 @@
 //! - `long`: lines of which each byte comes and goes alone.
 //! - `engines`: the programs' engines over readers, writers and sieves that fail or are odd.
 //! - `texts`: the texts of all errors.
-//! - `used`: the examples of the pages.
-//! - `telling`, `drawn`: how a test tells which row is wrong, and hashes for tests.
+//! - `page_examples`: the examples of the pages.
+//! - `row_reports`, `drawn`: how a test tells which row is wrong, and hashes for tests.
 #![tactic(auto)]
 
 // A scripted test: its name, how its filters are made, and its lines.
@@ -58,15 +60,15 @@ mod hashing;
 #[cfg(test)]
 mod long;
 #[cfg(test)]
-mod making;
-#[cfg(test)]
 mod memory;
-#[cfg(test)]
-mod nothing;
 #[cfg(test)]
 mod numbers;
 #[cfg(test)]
-mod overstated;
+mod odd_hasher;
+#[cfg(test)]
+mod odd_iterator;
+#[cfg(test)]
+mod page_examples;
 #[cfg(test)]
 mod recorded;
 #[cfg(test)]
@@ -74,18 +76,18 @@ mod room;
 #[cfg(test)]
 mod rotating;
 #[cfg(test)]
+mod row_reports;
+#[cfg(test)]
 mod rows;
 #[cfg(test)]
 mod scripted;
+#[cfg(test)]
+mod scripted_filters;
 #[cfg(test)]
 mod seated;
 #[cfg(test)]
 mod steps;
 #[cfg(test)]
-mod telling;
-#[cfg(test)]
 mod texts;
 #[cfg(test)]
 mod threads;
-#[cfg(test)]
-mod used;

@@ -1,8 +1,8 @@
 //! What both filters return from a call that takes memory, or that needs another filter.
 mod data;
 
-use crate::making::{Pair, Refused, are_alike, have_words, named, pair_of, paired};
 use crate::scripted::{Make, Size};
+use crate::scripted_filters::{Pair, Refused, are_alike, have_words, named, pair_of, paired};
 pub(crate) use data::{cross, data_of, has_data};
 use fastbloom::{AtomicBloomFilter, BloomFilter, Command};
 use std::alloc::Global;

@@ -1,5 +1,5 @@
 //! Numbers of hashes, sizes, rates, brackets and refusals at values from outside.
-use crate::telling::tell_row;
+use crate::row_reports::tell_row;
 use fastbloom::{
     Bracket, FilterError, Rate, expected_density, expected_false_pos, false_pos_bounds,
     false_pos_of_either, false_pos_of_ones, optimal_hashes, optimal_size,

@@ -7,7 +7,7 @@ mod log;
 mod reading;
 
 use crate::drawn::spread_from;
-use crate::telling::tell_row;
+use crate::row_reports::tell_row;
 use bloom_parts::bit_vector::{AtomicBitVec, Turn, TurnWords};
 use bloom_parts::error::FilterError;
 use bloom_steps::{Call, Machine, Step, calls};

@@ -9,7 +9,7 @@ mod without_memory;
 
 use crate::fills::{THREE, Watching, gate_of, parts_of};
 use crate::rotating::is_made;
-use crate::telling::{NO_ROOM, WRONG, say, word_of};
+use crate::row_reports::{NO_ROOM, WRONG, say, word_of};
 use bloom_parts::bit_vector::{AtomicBitVec, BitVec};
 use fastbloom::{
     AtomicBlockedBloomFilter, BlockedBloomFilter, Call, Event, FilterError, GrowingError,

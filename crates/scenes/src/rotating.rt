@@ -2,7 +2,7 @@
 
 use crate::drawn::spread;
 use crate::growing::Shaped;
-use crate::telling::tell_row;
+use crate::row_reports::tell_row;
 use fastbloom::{
     BlockedBloomFilter, BloomFilter, GrowingError, Rate, RotatingFilter, RotatingFilterOf,
 };

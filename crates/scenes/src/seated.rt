@@ -4,7 +4,7 @@ ghost use Rattle.std.specs.Prelude.{◌≡◌};
 
 mod threads;
 
-use crate::telling::tell_named;
+use crate::row_reports::tell_named;
 use fastbloom::{FilterError, Pass, SeatedBloomFilter};
 use std::alloc::Global;
 

@@ -2,7 +2,7 @@
 
 mod courses;
 
-use crate::telling::tell_row;
+use crate::row_reports::tell_row;
 use fastbloom::{Call, Machine, MemoryStore, Step, drive};
 use std::alloc::{AllocError, Global};
 

@@ -1,5 +1,5 @@
 //! The texts of all errors, as the pages of the library and of the programs have them.
-use crate::telling::{has_text, tell_row};
+use crate::row_reports::{has_text, tell_row};
 use fastbloom::{FileError, FilterError, GrowingError, LinesError};
 use lines::Reason;
 use std::alloc::Global;

@@ -72,7 +72,7 @@ impl Side for MaybeBelow {
 
 // A number of items that passes, of which the next does not, found by 64 tests.
 //
-// It can make no `T`, so its result rests on counted tests alone.
+// This function can't make a `T`, so it learns of the side only by tests, which are counted.
 pub(super) fn last_passing<T: Side>(side: &mut T) -> usize
     requires zero { T.passes side.old 0 }
     requires none { T.count side.old ≡ 0 }

@@ -13,12 +13,12 @@ use crate::lent::LentWords;
 use crate::passed_words::PassedWords;
 use crate::texts::fastbloom_hash;
 use bloom_blocked::by_hash::LINE;
-use bloom_blocked::line::{looks_in_line, set_in_line};
+use bloom_blocked::line::{look_up_in_line, set_in_line};
 use bloom_parts::bit_vector::MAX_WORDS;
 
 // Whether there are eight words, and at most 2^58 - 1.
 #[inline(always)]
-pub(crate) fn make_lines(num_words: usize) -> bool
+pub(crate) fn has_a_block(num_words: usize) -> bool
     ensures { IsTrue result ↔ MakeLines num_words }
 {
     num_words >= LINE && num_words <= MAX_WORDS
@@ -38,7 +38,7 @@ pub extern "C" fn fastbloom_blocked_shared_insert_hash(
     ensures none { (MakeLines words.len → ⊥) → result ≡ false }
 {
     let words = words.shared();
-    let accepted = make_lines(words.len());
+    let accepted = has_a_block(words.len());
     let Some(words) = words.unless_refused(accepted) else {
         return false;
     };
@@ -57,11 +57,11 @@ pub extern "C" fn fastbloom_blocked_shared_contains_hash(
     ensures none { (MakeLines words.len → ⊥) → result ≡ false }
 {
     let words = words.shared();
-    let accepted = make_lines(words.len());
+    let accepted = has_a_block(words.len());
     let Some(words) = words.unless_refused(accepted) else {
         return false;
     };
-    looks_in_line(&LentWords::new(&words), num_hashes.max(1), hash)
+    look_up_in_line(&LentWords::new(&words), num_hashes.max(1), hash)
 }
 
 /// Inserts the hash of bytes, and returns whether its own steps found all positions set already.

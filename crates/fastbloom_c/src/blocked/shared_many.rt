@@ -5,10 +5,10 @@ ghost use Rattle.fastbloom_c.specs.BlockedShared.{TellsLooksInLines, TellsSetsIn
 ghost use Rattle.fastbloom_c.specs.Passed.{MakeLines, vector_of};
 
 use super::many::have_room;
-use super::shared::make_lines;
+use super::shared::has_a_block;
 use crate::lent::LentWords;
 use crate::passed_words::{PassedWords, RawWords};
-use bloom_blocked::line::{insert_hashes, looks_in_line, set_in_turn};
+use bloom_blocked::line::{insert_hashes, look_up_in_line, set_in_turn};
 use bloom_parts::bit_vector::Turn;
 use bloom_parts::slices::clear;
 use bloom_parts::slices::many::turn_on_where;
@@ -28,7 +28,7 @@ pub extern "C" fn fastbloom_blocked_shared_insert_hashes(
         → WereSetInLines (vector_of words.at words.len) (max 1 num_hashes) hashes.now }
 {
     let words = words.shared();
-    let accepted = make_lines(words.len());
+    let accepted = has_a_block(words.len());
     let Some(words) = words.unless_refused(accepted) else {
         return false;
     };
@@ -42,7 +42,7 @@ pub extern "C" fn fastbloom_blocked_shared_insert_hashes(
 fn have_bits(num_words: usize, hashes: usize, bits: usize) -> bool
     ensures { IsTrue result ↔ (MakeLines num_words × (hashes ≤ 64 * bits)) }
 {
-    make_lines(num_words) && have_room(num_words, hashes, bits)
+    has_a_block(num_words) && have_room(num_words, hashes, bits)
 }
 
 // Looks up each of these hashes, and sets bit i where hash i was found, and no other.
@@ -58,7 +58,7 @@ fn find_each(words: &RawWords, num_hashes: u32, hashes: &[u64], found: &mut [u64
     let mut i: usize = 0;
     'looks: for hash in hashes {
         turn_on_where(
-            looks_in_line(&LentWords::new(words), num_hashes, *hash),
+            look_up_in_line(&LentWords::new(words), num_hashes, *hash),
             found,
             i,
         );

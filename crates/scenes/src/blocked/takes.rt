@@ -2,7 +2,7 @@
 //! have one position, so each bit is set once, and is taken once or left.
 use super::{Make, plain_of, shared_of};
 use crate::drawn::spread;
-use crate::telling::tell_row;
+use crate::row_reports::tell_row;
 use crate::threads::{Anything, Child, join_all};
 use fastbloom::{AtomicBlockedBloomFilter, FilterError};
 use std::alloc::Global;

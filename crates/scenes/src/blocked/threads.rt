@@ -1,7 +1,7 @@
 //! Two threads that insert into one blocked filter.
 use super::{Make, plain_of, shared_of};
 use crate::drawn::spread;
-use crate::telling::tell_row;
+use crate::row_reports::tell_row;
 use crate::threads::{Anything, Child, join_all};
 use fastbloom::{AtomicBlockedBloomFilter, BlockedBloomFilter, FilterError};
 use std::alloc::Global;

@@ -2,7 +2,7 @@
 //! write by its length, and each flush of what waits, in order. Nothing else is asked.
 mod rows;
 
-use crate::telling::tell_row;
+use crate::row_reports::tell_row;
 use bloom_engine::serve;
 use fastbloom::{BlockedBloomFilter, BloomFilter, FileError, FilterError, FilterFile};
 use rows::{FILES, File, SERVED, Served};

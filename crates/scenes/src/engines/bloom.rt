@@ -2,7 +2,7 @@
 mod rows;
 
 use super::faulty::{NARROW, ROOMY, Reading, SLOW, Seen, Sink, Source, WHOLE, Writing};
-use crate::telling::{has_text, tell_row};
+use crate::row_reports::{has_text, tell_row};
 use bloom_engine::{Fault, arguments, serve};
 use fastbloom::{BloomFilter, FilterError};
 use rows::{ARGUMENTS, Asked, FAULTS, Failing, Given, RUNS, Row};

@@ -3,7 +3,7 @@ mod odd;
 mod rows;
 
 use super::faulty::{KINDS, Reading, SLOW, Seen, Sink};
-use crate::telling::tell_row;
+use crate::row_reports::tell_row;
 use duplicates_engine::{Fault, Options, Total, keep_new};
 use fastbloom::{BloomFilter, FilterError, Rate};
 use odd::{Limited, Quiet, Sources};

@@ -1,6 +1,6 @@
 //! Files of blocked filters: the worked file, and others.
 use crate::files::KEY;
-use crate::telling::tell_row;
+use crate::row_reports::tell_row;
 use bloom_blocked::BlockedBloomFilter;
 use fastbloom::{BloomFilter, DefaultHasher, FileError, FilterError, FilterFile, Text};
 use std::alloc::Global;

@@ -1,7 +1,7 @@
 //! Files of readers and writers that take few bytes a call, are interrupted, or fail.
 use crate::engines::faulty::{KINDS, NARROW, Reading, Seen, Sink, Source, Writing};
 use crate::files::{WORKED, crabs, is_back, is_in_memory};
-use crate::telling::tell_row;
+use crate::row_reports::tell_row;
 use fastbloom::{BloomFilter, FileError, FilterError, FilterFile};
 use std::alloc::Global;
 use std::io::ErrorKind;

@@ -1,5 +1,5 @@
 //! What both filters return from calls with their data.
-use crate::making::{Pair, Refused, THE_TEST, named, plain_from, shared_from};
+use crate::scripted_filters::{Pair, Refused, THE_TEST, named, plain_from, shared_from};
 use fastbloom::{FilterData, FilterError};
 use std::alloc::Global;
 

@@ -80,13 +80,13 @@ pub(super) fn has_one(scene: &Scene<'_>, hash: u64) -> bool {
     }
     let start = line_start(scene.words.len(), hash);
     scene.log.begin();
-    let found = line::looks_in_line(&scene.words, scene.num_hashes.max(1), hash);
+    let found = line::look_up_in_line(&scene.words, scene.num_hashes.max(1), hash);
     let is_sought = has_look_up(scene, start, hash, found);
     scene.log.begin();
     line::set_in_line(&scene.words, scene.num_hashes, hash);
     let is_new = has_inserts(scene, false, &[hash]);
     scene.log.begin();
-    let found = line::looks_in_line(&scene.words, scene.num_hashes.max(1), hash);
+    let found = line::look_up_in_line(&scene.words, scene.num_hashes.max(1), hash);
     is_sought & is_new & found & has_look_up(scene, start, hash, true)
 }
 

@@ -3,8 +3,8 @@
 mod tables;
 
 use crate::follow::follow;
-use crate::making::{Refused, THE_TEST};
-use crate::telling::{NO_ROOM, say, tell_row, word_of};
+use crate::row_reports::{NO_ROOM, say, tell_row, word_of};
+use crate::scripted_filters::{Refused, THE_TEST};
 use tables::{CALLED, Called};
 
 // Prints each call of a scripted test that was whole.

@@ -1,7 +1,7 @@
 //! Calls on parts of filters that take no memory, as in `without_memory`.
 use crate::engines::bloom::words_of;
 use crate::hashing::hashers_return;
-use crate::telling::{NO_ROOM, is_given, say, word_without};
+use crate::row_reports::{NO_ROOM, is_given, say, word_without};
 use bloom_engine::{Fault, arguments};
 use bloom_parts::bit_vector::{AtomicBitVec, BitVec, index};
 use fastbloom::{Call, FilterError, MemoryStore, Shape, WordStore, drive};

@@ -1,7 +1,7 @@
 //! A seated filter that is made, called by two passes and closed.
 ghost use Rattle.std.specs.Prelude.{◌≡◌};
 
-use crate::telling::{WRONG, is_given, word_of, word_without};
+use crate::row_reports::{WRONG, is_given, word_of, word_without};
 use fastbloom::{FilterError, Pass, SeatedBloomFilter};
 use std::alloc::Global;
 

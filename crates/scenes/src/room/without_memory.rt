@@ -5,14 +5,14 @@ use crate::answers;
 use crate::concrete::rates_are_compared;
 use crate::fills::parts_of;
 use crate::follow::first_broken;
-use crate::making::{Pair, Refused, have_words, named, pair_of, plain_by, plain_from};
 use crate::memory::{compare_with, meet_both};
+use crate::row_reports::{NO_ROOM, is_given, say, word_without};
 use crate::scripted::Op::{
     Clear, Contains, ContainsItem, Estimates, Extend, Insert, InsertAll, InsertItem, Ones,
     UniteWithItself, Words,
 };
 use crate::scripted::{Item, Line, Make, Size};
-use crate::telling::{NO_ROOM, is_given, say, word_without};
+use crate::scripted_filters::{Pair, Refused, have_words, named, pair_of, plain_by, plain_from};
 use fastbloom::{
     AtomicBloomFilter, AtomicBuilderWithBits, BitsData, BloomFilter, BuilderWithBits,
     DefaultHasher, FilterData, FilterError,

@@ -2,7 +2,7 @@
 //! by hand. A course is what a run records: which call began, and each step with what it found.
 mod tables;
 
-use crate::telling::tell_named;
+use crate::row_reports::tell_named;
 use fastbloom::{Trace, run};
 use std::alloc::Global;
 use tables::{Course, disturbed, taken, undisturbed};

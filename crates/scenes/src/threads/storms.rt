@@ -2,7 +2,7 @@
 use super::tasks::{Act, Task, work};
 use super::{Child, Shared, join_all, start};
 use crate::drawn::spread;
-use crate::telling::tell_named;
+use crate::row_reports::tell_named;
 use fastbloom::{AtomicBloomFilter, BloomFilter, FilterError};
 use std::alloc::Global;
 use std::sync::Arc;

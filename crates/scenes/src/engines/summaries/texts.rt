@@ -1,5 +1,5 @@
 //! JSON texts of small and large filters.
-use crate::telling::tell_row;
+use crate::row_reports::tell_row;
 use fastbloom::{BloomFilter, FilterError};
 use std::alloc::{AllocError, Global};
 use summaries_engine::{AnyFilter, Form, load};
