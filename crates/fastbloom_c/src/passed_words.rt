@@ -1,8 +1,10 @@
 //! Words at a pointer, each read or changed by one atomic operation.
 ghost use Rattle.std.specs.Prelude.{◌≡◌, ◌↔◌, ◌<◌, IfSome, IsSome, IsTrue};
-ghost use Rattle.fastbloom_c.specs.Passed.{vector_of};
+ghost use Rattle.fastbloom_c.specs.Passed.{MakeFilter, MakeLines, vector_of};
 ghost use Rattle.bloom_parts.specs.Made.{FoundByLoad, FoundByOr, FoundByAnd, MadeZero, FoundBySwap};
 
+use bloom_blocked::by_hash::LINE;
+use bloom_parts::bit_vector::MAX_WORDS;
 use std::marker::{Brand, Model};
 use std::sync::atomic::Ordering::SeqCst;
 use std::sync::atomic::raw;
@@ -38,10 +40,57 @@ impl Model for PassedWords {
     ghost also_owns = { λ w. words_lie w.at w.len };
 }
 
+// Whether there are words, and at most 2^58 - 1.
+#[inline(always)]
+fn make_filter(num_words: usize) -> bool
+    ensures { IsTrue result ↔ MakeFilter num_words }
+{
+    num_words > 0 && num_words <= MAX_WORDS
+}
+
+// Whether there are eight words, and at most 2^58 - 1.
+#[inline(always)]
+fn make_lines(num_words: usize) -> bool
+    ensures { IsTrue result ↔ MakeLines num_words }
+{
+    num_words >= LINE && num_words <= MAX_WORDS
+}
+
 impl PassedWords {
-    /// The words, for calls that only borrow them.
+    /// The words, where they make a filter; else none, so that a call that refuses them has no words
+    /// to change.
     #[inline(always)]
-    pub fn shared(self) -> RawWords
+    pub fn filter(self) -> Option<RawWords>
+        ensures given { IsSome result ↔ MakeFilter self.len }
+        ensures at { IfSome result (λ words. words.at ≡ self.at) }
+        ensures len { IfSome result (λ words. words.len ≡ self.len) }
+    {
+        let words = self.shared();
+        if make_filter(words.len()) {
+            Some(words)
+        } else {
+            None
+        }
+    }
+
+    /// The words, where they make a filter in lines; else none.
+    #[inline(always)]
+    pub fn lines(self) -> Option<RawWords>
+        ensures given { IsSome result ↔ MakeLines self.len }
+        ensures at { IfSome result (λ words. words.at ≡ self.at) }
+        ensures len { IfSome result (λ words. words.len ≡ self.len) }
+    {
+        let words = self.shared();
+        if make_lines(words.len()) {
+            Some(words)
+        } else {
+            None
+        }
+    }
+
+    // The words, for calls that only borrow them.
+    #[inline(always)]
+    fn shared(self) -> RawWords
         ensures at { result.at ≡ self.at }
         ensures len { result.len ≡ self.len }
     {
@@ -51,15 +100,6 @@ impl PassedWords {
 }
 
 impl RawWords {
-    /// These words, or none where a call refuses them, which then has no words to change.
-    #[inline(always)]
-    pub fn unless_refused(self, accepted: bool) -> Option<Self>
-        ensures given { IsSome result ↔ IsTrue accepted }
-        ensures same { IfSome result (λ words. words ≡ self) }
-    {
-        if accepted { Some(self) } else { None }
-    }
-
     /// The number of words.
     #[inline(always)]
     pub fn len(&self) -> usize

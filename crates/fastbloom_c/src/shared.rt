@@ -18,14 +18,6 @@ use crate::texts::fastbloom_hash;
 use bloom_parts::bit_vector::MAX_WORDS;
 use bloom_steps::calls::{contains_hash, insert_hash};
 
-// Whether there are words, and at most 2^58 - 1.
-#[inline(always)]
-pub(crate) fn is_filter_size(num_words: usize) -> bool
-    ensures { IsTrue result ↔ MakeFilter num_words }
-{
-    num_words > 0 && num_words <= MAX_WORDS
-}
-
 /// Sets all positions of a hash, and returns whether its own steps found all of them set already.
 /// So it returns false exactly if it set a bit itself.
 #[unsafe(no_mangle)]
@@ -39,9 +31,7 @@ pub extern "C" fn fastbloom_shared_insert_hash(
         (max 1 num_hashes) (Insert hash) (Some result) }
     ensures none { (MakeFilter words.len → ⊥) → result ≡ false }
 {
-    let words = words.shared();
-    let accepted = is_filter_size(words.len());
-    let Some(words) = words.unless_refused(accepted) else {
+    let Some(words) = words.filter() else {
         return false;
     };
     insert_hash(&LentWords::new(&words), num_hashes.max(1), hash)
@@ -91,9 +81,7 @@ pub extern "C" fn fastbloom_shared_contains_hash(
         (max 1 num_hashes) (Contains hash) (Some result) }
     ensures none { (MakeFilter words.len → ⊥) → result ≡ false }
 {
-    let words = words.shared();
-    let accepted = is_filter_size(words.len());
-    let Some(words) = words.unless_refused(accepted) else {
+    let Some(words) = words.filter() else {
         return false;
     };
     found_hashes_of(words, num_hashes.max(1), hash) > 0

@@ -7,7 +7,7 @@ ghost use Rattle.fastbloom_c.specs.Passed.{MakeFilter, vector_of};
 use crate::lent::LentWords;
 use crate::many::have_room;
 use crate::passed_words::{PassedWords, RawWords};
-use crate::shared::{found_hashes, is_filter_size};
+use crate::shared::found_hashes;
 use bloom_parts::bit_vector::Turn;
 use bloom_parts::slices::clear;
 use bloom_parts::slices::many::turn_on_where;
@@ -27,22 +27,13 @@ pub extern "C" fn fastbloom_shared_insert_hashes(
     ensures made { IsTrue result
         → WereInserted (vector_of words.at words.len) (max 1 num_hashes) hashes.now }
 {
-    let words = words.shared();
-    let accepted = is_filter_size(words.len());
-    let Some(words) = words.unless_refused(accepted) else {
+    let Some(words) = words.filter() else {
         return false;
     };
     let lent = LentWords::new(&words);
     let num_hashes = num_hashes.max(1);
     insert_hashes(&lent, num_hashes, hashes);
     true
-}
-
-// Whether there are words, and bits enough for these hashes.
-fn have_bits(num_words: usize, hashes: usize, bits: usize) -> bool
-    ensures { IsTrue result ↔ (MakeFilter num_words × (hashes ≤ 64 * bits)) }
-{
-    is_filter_size(num_words) && have_room(num_words, hashes, bits)
 }
 
 // Looks up each of these hashes, and sets bit i where hash i was found, and no other.
@@ -81,11 +72,12 @@ pub extern "C" fn fastbloom_shared_contains_hashes(
     ensures stays { result ≡ false → found.new ≡ found.old }
     ensures shape { length found.new ≡ length found.old }
 {
-    let words = words.shared();
-    let accepted = have_bits(words.len(), hashes.len(), found.len());
-    let Some(words) = words.unless_refused(accepted) else {
+    let Some(words) = words.filter() else {
         return false;
     };
+    if !have_room(words.len(), hashes.len(), found.len()) {
+        return false;
+    }
     find_each(&words, num_hashes.max(1), hashes, found);
     true
 }
@@ -128,11 +120,12 @@ pub extern "C" fn fastbloom_shared_insert_hashes_tell_new(
     ensures stays { result ≡ false → fresh.new ≡ fresh.old }
     ensures shape { length fresh.new ≡ length fresh.old }
 {
-    let words = words.shared();
-    let accepted = have_bits(words.len(), hashes.len(), fresh.len());
-    let Some(words) = words.unless_refused(accepted) else {
+    let Some(words) = words.filter() else {
         return false;
     };
+    if !have_room(words.len(), hashes.len(), fresh.len()) {
+        return false;
+    }
     insert_each_telling(&words, num_hashes.max(1), hashes, fresh);
     true
 }

@@ -8,7 +8,6 @@ ghost use Rattle.fastbloom_c.specs.SharedRates.{BoundsWords, EstimatesWords};
 use crate::estimates::tell;
 use crate::lent::LentWords;
 use crate::passed_words::{PassedWords, RawWords};
-use crate::shared::is_filter_size;
 use bloom_parts::math::{Bracket, Estimate, estimated_items, false_pos_of_ones};
 use bloom_steps::calls::count_ones;
 
@@ -56,9 +55,7 @@ pub extern "C" fn fastbloom_shared_rate_now(
 {
     *low = 0;
     *high = 0;
-    let words = words.shared();
-    let accepted = is_filter_size(words.len());
-    let Some(words) = words.unless_refused(accepted) else {
+    let Some(words) = words.filter() else {
         return false;
     };
     let now = rate_of(&words, num_hashes.max(1));
@@ -85,9 +82,7 @@ pub extern "C" fn fastbloom_shared_estimate(
 {
     *low = 0;
     *high = 0;
-    let words = words.shared();
-    let accepted = is_filter_size(words.len());
-    let Some(words) = words.unless_refused(accepted) else {
+    let Some(words) = words.filter() else {
         return false;
     };
     tell(items_in(&words, num_hashes.max(1)), low, high);

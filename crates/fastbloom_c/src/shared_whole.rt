@@ -7,7 +7,6 @@ ghost use Rattle.fastbloom_c.specs.Passed.{MakeFilter, vector_of};
 
 use crate::lent::LentWords;
 use crate::passed_words::PassedWords;
-use crate::shared::is_filter_size;
 use bloom_steps::calls::{clear, count_ones, intersect, load_into, take_into, union};
 
 /// Clears every position, one word after the other, and returns whether there are words.
@@ -17,20 +16,11 @@ pub extern "C" fn fastbloom_shared_clear(words: PassedWords) -> bool
     ensures made { IsTrue result → let vector = vector_of words.at words.len in
         MakesCallOn vector vector 1 call.Clear None }
 {
-    let words = words.shared();
-    let accepted = is_filter_size(words.len());
-    let Some(words) = words.unless_refused(accepted) else {
+    let Some(words) = words.filter() else {
         return false;
     };
     clear(&LentWords::new(&words), 1);
     true
-}
-
-// Whether there are words, at most 2^58 - 1, and as many others.
-fn are_as_many(num_words: usize, others: usize) -> bool
-    ensures { IsTrue result ↔ (MakeFilter num_words × (others ≡ num_words)) }
-{
-    is_filter_size(num_words) && others == num_words
 }
 
 /// Sets what is found set in the other words, one word after the other, and returns whether it did.
@@ -42,15 +32,12 @@ pub extern "C" fn fastbloom_shared_union(words: PassedWords, other: PassedWords)
     ensures made { IsTrue result → MakesCallOn (vector_of words.at words.len)
         (vector_of other.at other.len) 1 call.Union None }
 {
-    let (words, other) = (words.shared(), other.shared());
-    let accepted = are_as_many(words.len(), other.len());
-    let (words, other) = (
-        words.unless_refused(accepted),
-        other.unless_refused(accepted),
-    );
-    let (Some(words), Some(other)) = (words, other) else {
+    let (Some(words), Some(other)) = (words.filter(), other.filter()) else {
         return false;
     };
+    if words.len() != other.len() {
+        return false;
+    }
     union(&LentWords::new(&words), &LentWords::new(&other), 1);
     true
 }
@@ -65,15 +52,12 @@ pub extern "C" fn fastbloom_shared_intersect(words: PassedWords, other: PassedWo
     ensures made { IsTrue result → MakesCallOn (vector_of words.at words.len)
         (vector_of other.at other.len) 1 call.Intersect None }
 {
-    let (words, other) = (words.shared(), other.shared());
-    let accepted = are_as_many(words.len(), other.len());
-    let (words, other) = (
-        words.unless_refused(accepted),
-        other.unless_refused(accepted),
-    );
-    let (Some(words), Some(other)) = (words, other) else {
+    let (Some(words), Some(other)) = (words.filter(), other.filter()) else {
         return false;
     };
+    if words.len() != other.len() {
+        return false;
+    }
     intersect(&LentWords::new(&words), &LentWords::new(&other), 1);
     true
 }
@@ -87,11 +71,12 @@ pub extern "C" fn fastbloom_shared_take(words: PassedWords, taken: &mut [u64]) -
     ensures stays { result ≡ false → taken.new ≡ taken.old }
     ensures shape { length taken.new ≡ length taken.old }
 {
-    let words = words.shared();
-    let accepted = are_as_many(words.len(), taken.len());
-    let Some(words) = words.unless_refused(accepted) else {
+    let Some(words) = words.filter() else {
         return false;
     };
+    if words.len() != taken.len() {
+        return false;
+    }
     take_into(&LentWords::new(&words), 1, taken);
     true
 }
@@ -105,11 +90,12 @@ pub extern "C" fn fastbloom_shared_load(words: PassedWords, loaded: &mut [u64]) 
     ensures stays { result ≡ false → loaded.new ≡ loaded.old }
     ensures shape { length loaded.new ≡ length loaded.old }
 {
-    let words = words.shared();
-    let accepted = are_as_many(words.len(), loaded.len());
-    let Some(words) = words.unless_refused(accepted) else {
+    let Some(words) = words.filter() else {
         return false;
     };
+    if words.len() != loaded.len() {
+        return false;
+    }
     load_into(&LentWords::new(&words), loaded);
     true
 }
@@ -121,9 +107,7 @@ pub extern "C" fn fastbloom_shared_count_ones(words: PassedWords) -> usize
     ensures counts { MakeFilter words.len → CountsLoaded (vector_of words.at words.len) result }
     ensures none { (MakeFilter words.len → ⊥) → result ≡ 0 }
 {
-    let words = words.shared();
-    let accepted = is_filter_size(words.len());
-    let Some(words) = words.unless_refused(accepted) else {
+    let Some(words) = words.filter() else {
         return 0;
     };
     count_ones(&LentWords::new(&words))

@@ -4,7 +4,6 @@ ghost use Rattle.bloom_blocked.specs.LineRates.{BoundsLines, BoundsLoadedLines, 
 ghost use Rattle.fastbloom_c.specs.Estimates.{TellsPart};
 ghost use Rattle.fastbloom_c.specs.Passed.{MakeLines, vector_of};
 
-use super::shared::has_a_block;
 use crate::lent::LentWords;
 use crate::passed_words::{PassedWords, RawWords};
 use bloom_blocked::by_hash::LINE;
@@ -71,9 +70,7 @@ pub extern "C" fn fastbloom_blocked_shared_rate_now(
 {
     *low = 0;
     *high = 0;
-    let words = words.shared();
-    let accepted = has_a_block(words.len());
-    let Some(words) = words.unless_refused(accepted) else {
+    let Some(words) = words.lines() else {
         return false;
     };
     let now = rate_of(&words, num_hashes.max(1));

@@ -13,16 +13,8 @@ use crate::lent::LentWords;
 use crate::passed_words::PassedWords;
 use crate::texts::fastbloom_hash;
 use bloom_blocked::by_hash::LINE;
-use bloom_blocked::line::{look_up_in_line, set_in_line};
+use bloom_blocked::line::{looks_in_line, set_in_line};
 use bloom_parts::bit_vector::MAX_WORDS;
-
-// Whether there are eight words, and at most 2^58 - 1.
-#[inline(always)]
-pub(crate) fn has_a_block(num_words: usize) -> bool
-    ensures { IsTrue result ↔ MakeLines num_words }
-{
-    num_words >= LINE && num_words <= MAX_WORDS
-}
 
 /// Sets all positions of a hash, and returns whether its own steps found all of them set already.
 /// So it returns false exactly if it set a bit itself. It makes one step for each word of the line
@@ -37,9 +29,7 @@ pub extern "C" fn fastbloom_blocked_shared_insert_hash(
         → SetsInLine (vector_of words.at words.len) (max 1 num_hashes) hash result }
     ensures none { (MakeLines words.len → ⊥) → result ≡ false }
 {
-    let words = words.shared();
-    let accepted = has_a_block(words.len());
-    let Some(words) = words.unless_refused(accepted) else {
+    let Some(words) = words.lines() else {
         return false;
     };
     set_in_line(&LentWords::new(&words), num_hashes.max(1), hash)
@@ -56,12 +46,10 @@ pub extern "C" fn fastbloom_blocked_shared_contains_hash(
         → LooksInLine (vector_of words.at words.len) (max 1 num_hashes) hash result }
     ensures none { (MakeLines words.len → ⊥) → result ≡ false }
 {
-    let words = words.shared();
-    let accepted = has_a_block(words.len());
-    let Some(words) = words.unless_refused(accepted) else {
+    let Some(words) = words.lines() else {
         return false;
     };
-    look_up_in_line(&LentWords::new(&words), num_hashes.max(1), hash)
+    looks_in_line(&LentWords::new(&words), num_hashes.max(1), hash)
 }
 
 /// Inserts the hash of bytes, and returns whether its own steps found all positions set already.

@@ -5,10 +5,9 @@ ghost use Rattle.fastbloom_c.specs.BlockedShared.{TellsLooksInLines, TellsSetsIn
 ghost use Rattle.fastbloom_c.specs.Passed.{MakeLines, vector_of};
 
 use super::many::have_room;
-use super::shared::has_a_block;
 use crate::lent::LentWords;
 use crate::passed_words::{PassedWords, RawWords};
-use bloom_blocked::line::{insert_hashes, look_up_in_line, set_in_turn};
+use bloom_blocked::line::{insert_hashes, looks_in_line, set_in_turn};
 use bloom_parts::bit_vector::Turn;
 use bloom_parts::slices::clear;
 use bloom_parts::slices::many::turn_on_where;
@@ -27,22 +26,13 @@ pub extern "C" fn fastbloom_blocked_shared_insert_hashes(
     ensures made { IsTrue result
         → WereSetInLines (vector_of words.at words.len) (max 1 num_hashes) hashes.now }
 {
-    let words = words.shared();
-    let accepted = has_a_block(words.len());
-    let Some(words) = words.unless_refused(accepted) else {
+    let Some(words) = words.lines() else {
         return false;
     };
     let lent = LentWords::new(&words);
     let num_hashes = num_hashes.max(1);
     insert_hashes(&lent, num_hashes, hashes);
     true
-}
-
-// Whether there is a line, and bits enough for these hashes.
-fn have_bits(num_words: usize, hashes: usize, bits: usize) -> bool
-    ensures { IsTrue result ↔ (MakeLines num_words × (hashes ≤ 64 * bits)) }
-{
-    has_a_block(num_words) && have_room(num_words, hashes, bits)
 }
 
 // Looks up each of these hashes, and sets bit i where hash i was found, and no other.
@@ -58,7 +48,7 @@ fn find_each(words: &RawWords, num_hashes: u32, hashes: &[u64], found: &mut [u64
     let mut i: usize = 0;
     'looks: for hash in hashes {
         turn_on_where(
-            look_up_in_line(&LentWords::new(words), num_hashes, *hash),
+            looks_in_line(&LentWords::new(words), num_hashes, *hash),
             found,
             i,
         );
@@ -85,11 +75,12 @@ pub extern "C" fn fastbloom_blocked_shared_contains_hashes(
     ensures stays { result ≡ false → found.new ≡ found.old }
     ensures shape { length found.new ≡ length found.old }
 {
-    let words = words.shared();
-    let accepted = have_bits(words.len(), hashes.len(), found.len());
-    let Some(words) = words.unless_refused(accepted) else {
+    let Some(words) = words.lines() else {
         return false;
     };
+    if !have_room(words.len(), hashes.len(), found.len()) {
+        return false;
+    }
     find_each(&words, num_hashes.max(1), hashes, found);
     true
 }
@@ -131,11 +122,12 @@ pub extern "C" fn fastbloom_blocked_shared_insert_hashes_tell_new(
     ensures stays { result ≡ false → fresh.new ≡ fresh.old }
     ensures shape { length fresh.new ≡ length fresh.old }
 {
-    let words = words.shared();
-    let accepted = have_bits(words.len(), hashes.len(), fresh.len());
-    let Some(words) = words.unless_refused(accepted) else {
+    let Some(words) = words.lines() else {
         return false;
     };
+    if !have_room(words.len(), hashes.len(), fresh.len()) {
+        return false;
+    }
     insert_each_telling(&words, num_hashes.max(1), hashes, fresh);
     true
 }

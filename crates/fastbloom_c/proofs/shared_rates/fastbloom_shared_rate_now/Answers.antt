@@ -12,8 +12,7 @@ returns-clause-bounds c told =
     record {
       part = rate.result;
       holds = subst Claim at_least_one
-          (rw (c.in-Some.ensures.same, c.shared-words.ensures.at, c.shared-words.ensures.len)
-          at rate.ensures);
+          (rw (c.in-Some.ensures.at, c.in-Some.ensures.len) at rate.ensures);
       is_low = c.low.ensures;
       is_high = c.high.ensures;
     }

@@ -1,4 +1,4 @@
-use Rattle.std.proofs.Common.{◌≡◌, ◌∙◌, max, ap, rules, subst}
+use Rattle.std.proofs.Common.{◌≡◌, max, rules, subst}
 use Rattle.fastbloom_c.specs.Passed.{vector_of}
 use Rattle.bloom_blocked.specs.LineSteps.{WereSetInLines}
 use Rattle.fastbloom_c.proofs.blocked.shared_many.fastbloom_blocked_shared_insert_hashes.Goals as goal
@@ -9,9 +9,6 @@ returns-clause-made c = λ _.
     let hashes = c.args.hashes.now in
     let k : c.max-num_hashes.result ≡ max 1 c.args.num_hashes = search rules in
     let vector : c.new-lent.result ≡ vector_of words.at words.len =
-    c.new-lent.ensures
-    ∙ ap (λ given. vector_of given.at given.len) c.in-Some.ensures.same
-    ∙ ap (λ at. vector_of at c.shared-words.result.len) c.shared-words.ensures.at
-    ∙ ap (vector_of words.at) c.shared-words.ensures.len in
+    rw (c.in-Some.ensures.at, c.in-Some.ensures.len) at c.new-lent.ensures in
     subst (λ v. WereSetInLines v (max 1 c.args.num_hashes) hashes) vector
     (subst (λ n. WereSetInLines c.new-lent.result n hashes) k c.insert_hashes.ensures)
