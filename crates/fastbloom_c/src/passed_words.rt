@@ -42,7 +42,7 @@ impl Model for PassedWords {
 
 // Whether there are words, and at most 2^58 - 1.
 #[inline(always)]
-fn make_filter(num_words: usize) -> bool
+fn is_filter_size(num_words: usize) -> bool
     ensures { IsTrue result ↔ MakeFilter num_words }
 {
     num_words > 0 && num_words <= MAX_WORDS
@@ -50,7 +50,7 @@ fn make_filter(num_words: usize) -> bool
 
 // Whether there are eight words, and at most 2^58 - 1.
 #[inline(always)]
-fn make_lines(num_words: usize) -> bool
+fn has_a_block(num_words: usize) -> bool
     ensures { IsTrue result ↔ MakeLines num_words }
 {
     num_words >= LINE && num_words <= MAX_WORDS
@@ -66,7 +66,7 @@ impl PassedWords {
         ensures len { IfSome result (λ words. words.len ≡ self.len) }
     {
         let words = self.shared();
-        if make_filter(words.len()) {
+        if is_filter_size(words.len()) {
             Some(words)
         } else {
             None
@@ -81,7 +81,7 @@ impl PassedWords {
         ensures len { IfSome result (λ words. words.len ≡ self.len) }
     {
         let words = self.shared();
-        if make_lines(words.len()) {
+        if has_a_block(words.len()) {
             Some(words)
         } else {
             None

@@ -13,7 +13,7 @@ use crate::lent::LentWords;
 use crate::passed_words::PassedWords;
 use crate::texts::fastbloom_hash;
 use bloom_blocked::by_hash::LINE;
-use bloom_blocked::line::{looks_in_line, set_in_line};
+use bloom_blocked::line::{look_up_in_line, set_in_line};
 use bloom_parts::bit_vector::MAX_WORDS;
 
 /// Sets all positions of a hash, and returns whether its own steps found all of them set already.
@@ -49,7 +49,7 @@ pub extern "C" fn fastbloom_blocked_shared_contains_hash(
     let Some(words) = words.lines() else {
         return false;
     };
-    looks_in_line(&LentWords::new(&words), num_hashes.max(1), hash)
+    look_up_in_line(&LentWords::new(&words), num_hashes.max(1), hash)
 }
 
 /// Inserts the hash of bytes, and returns whether its own steps found all positions set already.

@@ -7,7 +7,7 @@ ghost use Rattle.fastbloom_c.specs.Passed.{MakeLines, vector_of};
 use super::many::have_room;
 use crate::lent::LentWords;
 use crate::passed_words::{PassedWords, RawWords};
-use bloom_blocked::line::{insert_hashes, looks_in_line, set_in_turn};
+use bloom_blocked::line::{insert_hashes, look_up_in_line, set_in_turn};
 use bloom_parts::bit_vector::Turn;
 use bloom_parts::slices::clear;
 use bloom_parts::slices::many::turn_on_where;
@@ -48,7 +48,7 @@ fn find_each(words: &RawWords, num_hashes: u32, hashes: &[u64], found: &mut [u64
     let mut i: usize = 0;
     'looks: for hash in hashes {
         turn_on_where(
-            looks_in_line(&LentWords::new(words), num_hashes, *hash),
+            look_up_in_line(&LentWords::new(words), num_hashes, *hash),
             found,
             i,
         );
