@@ -52,7 +52,7 @@ pub trait GrowableFilter: Drop {
     fn contains_hash(&self, hash: u64) -> bool
         ensures { result ≡ contains_in kind (seen self.now) hash };
 
-    /// Whether it is so large that looking up hashes together, before they come, saves time.
+    /// Whether it is so large that hashes are better looked up together before each is inserted.
     fn looks_ahead(&self) -> bool;
 
     /// Looks up these hashes, 64 at most, so that the memory brings their words side by side.
