@@ -52,11 +52,11 @@ pub trait GrowableFilter: Drop {
     fn contains_hash(&self, hash: u64) -> bool
         ensures { result ≡ contains_in kind (seen self.now) hash };
 
-    /// Whether it is so large that hashes which come are better looked up together before.
+    /// Whether it is so large that hashes are better looked up together before each is inserted.
     fn looks_ahead(&self) -> bool;
 
     /// Looks up these hashes, 64 at most, so that the memory brings their words side by side.
-    /// Nothing depends on what is found.
+    /// Nothing depends on what is found, so no clause tells it.
     fn look_up(&self, hashes: &[u64], found: &mut [u64; 1])
         requires { length hashes.now ≤ 64 };
 
