@@ -1,4 +1,7 @@
-"""A model of the program `bloom`, written from its description and the arithmetic alone."""
+"""A model of the program `bloom`, written from its description and the arithmetic alone.
+
+dev/blocked-model and tests/rotating.py use its filter.
+"""
 
 WORD = 2**64
 MOST_WORDS = 2**20
@@ -51,11 +54,12 @@ class Filter:
     def contains(self, source):
         return all(place in self.on for place in self.positions(source))
 
-    def text(self):
+    def values(self):
+        """The words."""
         values = [0] * self.words
         for place in self.on:
             values[place // 64] += 2 ** (place % 64)
-        return b''.join(b'%016x\n' % value for value in values)
+        return values
 
 
 def answer(filter, line):
@@ -64,7 +68,7 @@ def answer(filter, line):
         filter.on = set()
         return b''
     if line == b'w':
-        return filter.text()
+        return b''.join(b'%016x\n' % value for value in filter.values())
     source = number(line[2:])
     if line[:2] not in (b'i ', b'c ') or source is None:
         return None
