@@ -75,7 +75,7 @@ all: $(BINARIES) $(ARCHIVE) $(if $(HAS_SQLITE),$(EXTENSION)) $(if $(HAS_PYTHON),
 
 # dev/prove knows what is up to date, and writes nothing then.
 $(BINARIES) $(PROVED): FORCE
-	dev/prove $(patsubst lib%.a,%,$(@F))
+	@dev/prove $(patsubst lib%.a,%,$(@F))
 FORCE:
 
 $(ARCHIVE): $(PROVED) $(C_SOURCES)

@@ -41,8 +41,8 @@ def shape(items, num, den):
 def digest(filters):
     fold = 1469598103934665603
     for filter in filters:
-        for word in filter.text().split():
-            fold = (fold ^ int(word, 16)) * 1099511628211 % 2**64
+        for word in filter.values():
+            fold = (fold ^ word) * 1099511628211 % 2**64
     return fold
 
 
