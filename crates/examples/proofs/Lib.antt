@@ -1,4 +1,3 @@
-mod GuardedFacts
-mod KnownFacts
+mod ExampleFacts
 mod KnownLemmas
 mod WrittenLemmas
