@@ -1,5 +1,5 @@
--- What contracts see of a filter that threads share, of either kind. They don't see its words, since
--- any thread may change them at any time. This project's own.
+-- What contracts see of a filter that threads share, of either kind. They don't see its words,
+-- since any thread may change them at any time. This project's own.
 use Rattle.std.specs.Prelude.{◌≡◌, ℕ, length}
 use Rattle.bloom_parts.specs.Made.{SharedWords, BeganWith}
 use Rattle.bloom_plain.specs.Filter.{Filter}

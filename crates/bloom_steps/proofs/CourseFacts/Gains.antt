@@ -58,5 +58,6 @@ gains : CountsGains twins
 gains = (
   counts_gains 2 twins lawful-twins,
   (λ counts.
-      let two = counts (twins-pass goes_by_hash refl) in omega (arith, sym twins-set, two, few-gained)),
+      let two = counts (twins-pass goes_by_hash refl) in
+      omega (arith, sym twins-set, two, few-gained)),
 )

@@ -104,7 +104,9 @@ unfolding chain
 asks = (
   asks_right begun (Some (Or 0 1)) refl,
   (λ told.
-      let comes = (told 1 2 (Insert 1) [] stands.0).begun (record { next = _; rest = _; script = is_script.0 }) in
+      let comes =
+      (told 1 2 (Insert 1) [] stands.0).begun
+      (record { next = _; rest = _; script = is_script.0 }) in
       let next = comes.next _ _ is_script.0 in
       let asked = comes.asks_it in
       cc),
