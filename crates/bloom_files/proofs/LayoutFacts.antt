@@ -9,8 +9,8 @@ use Rattle.bloom_files.specs.File.{bytes_of}
 use Rattle.bloom_files.specs.FileLayouts.{AreWhole, IsFileIn, ReadsParts, WritesParts, file_in, sealed_file}
 use Rattle.bloom_files.proofs.Cases.{first, head_with, its_head, its_seal, its_word, key_first, key_last, line_file, line_head, line_words, low, unsealed, worked}
 
--- eight words are a line, and seven or nine are none; any number may be no lines
-whole : AreWhole Lines 8 × (AreWhole Lines 7 → ⊥) × (AreWhole Lines 9 → ⊥) × AreWhole Whole 7
+-- eight words are a line, and four or nine are none; any number may be no lines
+whole : AreWhole Lines 8 × (AreWhole Lines 4 → ⊥) × (AreWhole Lines 9 → ⊥) × AreWhole Whole 4
 whole = (refl, λ is. omega (arith, is), λ is. omega (arith, is), tt)
 
 -- the file of the line is the file that the other program wrote

@@ -63,7 +63,7 @@ whole_head = (refl, refl, refl, refl, refl, refl, refl)
 
 -- where lines are read their number is wanted, and whole lines of eight words
 line_head : (head_refusal_in Lines (start_with 16 line_seal (low 1) (low 0)) ≡ None)
-    × (head_refusal_in Lines (start_with 7 line_seal (low 1) (low 0)) ≡ Some PartOfALine)
+    × (head_refusal_in Lines (start_with 4 line_seal (low 1) (low 0)) ≡ Some PartOfALine)
     × (head_refusal_in Lines (start_with 9 line_seal (low 1) (low 0)) ≡ Some PartOfALine)
     × (head_refusal_in Lines (start_with 7 line_seal (low 0) (low 0)) ≡ Some NotBlocked)
     × (head_refusal_in Lines (start_with 8 line_seal (low 2) (low 0)) ≡ Some Reserved)
