@@ -3,20 +3,19 @@
 use Rattle.std.proofs.Common.{◌≡◌, ℕ, true, false, ◌||◌, [], ◌∷◌, length, refl, sym, ap, ◌∙◌, lit<, arith}
 use Rattle.std.proofs.lemmas.Grind.{common_steps}
 use Rattle.bloom_parts.specs.Chain.{chain}
-use Rattle.bloom_parts.specs.Content.{content, AreWords}
+use Rattle.bloom_parts.specs.Content.{content}
 use Rattle.bloom_parts.specs.Keys.{key_of}
 use Rattle.bloom_parts.specs.Places.{positions}
 use Rattle.bloom_parts.specs.Sip.{sip}
 use Rattle.bloom_plain.proofs.CaseLemmas.{content-case, content-past}
 use Rattle.fastbloom.specs.Data.{DefaultFilter}
 use Rattle.fastbloom.specs.Fill.{positions_of_all}
-use Rattle.fastbloom.specs.Filter.{contains}
 use Rattle.summaries_engine.specs.declared.kinds.AnyFilter.TheVariants.{Classic}
 use Rattle.summaries_engine.specs.Kinds.{UnitesParts}
-use Rattle.summaries_engine.specs.Summaries.{HaveSameKey, HaveSameKeys, IsSummaryOf, hash_in}
-use Rattle.summaries_engine.specs.Trees.{Tree, Part, United, keys_of, Makes, TreeSummaryLaw, AnyPartsLaw, AnyPartFoundLaw}
+use Rattle.summaries_engine.specs.Summaries.{HaveSameKeys, IsSummaryOf}
+use Rattle.summaries_engine.specs.Trees.{Tree, Part, United, keys_of, Makes}
 use Rattle.summaries_engine.proofs.SummaryFacts.{IsFilter, shape, summary-a, summary-b, at, hash-a, hash-b}
-use Rattle.summaries_engine.proofs.UnionFacts.{same-keys}
+use Rattle.summaries_engine.proofs.TreeLemmas.{tree_summary_law}
 
 -- "a" and "b" in two parts that are united first, and then the part of "a" once more
 abbrev repeated : Tree
@@ -116,26 +115,17 @@ module _ (f g : DefaultFilter) (one : IsFilter f 268500992 0)
   )
 
 -- the filter of "a" alone isn't made by a tree that has the part of "b"
-makes-less : TreeSummaryLaw → (made : DefaultFilter) → IsFilter made 268500992 0
+makes-less : (made : DefaultFilter) → IsFilter made 268500992 0
     → Makes shape repeated (Classic made) → ⊥
 unfolding content positions chain
-makes-less law made is did =
+makes-less made is did =
     let summary : IsSummaryOf shape ((97 ∷ []) ∷ (98 ∷ []) ∷ (97 ∷ []) ∷ []) (Classic made) =
-    law shape repeated (Classic made) did in
+    tree_summary_law shape repeated (Classic made) did in
     let wrong : false ≡ true =
     at made 268500992 0 ((97 ∷ []) ∷ (98 ∷ []) ∷ (97 ∷ []) ∷ []) 34 is summary
     ∙ ap (λ h. positions_of_all 64 2 (h ∷ sip 0 0 (98 ∷ []) ∷ h ∷ []) 34) hash-a
     ∙ ap (λ h. positions_of_all 64 2
     (0x4074_48d2_b89b_1813 ∷ h ∷ 0x4074_48d2_b89b_1813 ∷ []) 34) hash-b in cc
-
--- a tree with a part that comes twice makes the words of the filter of all keys, in another order
-parts-repeated : AnyPartsLaw → (made whole : DefaultFilter) → Makes shape repeated (Classic made)
-    → IsSummaryOf shape ((98 ∷ []) ∷ (97 ∷ []) ∷ []) (Classic whole)
-    → AreWords made.words → AreWords whole.words → HaveSameKey (Classic whole) (Classic made)
-    → (made.words ≡ whole.words) × (made.hashes ≡ whole.hashes)
-parts-repeated law made whole did filled words fit key =
-    law shape repeated ((98 ∷ []) ∷ (97 ∷ []) ∷ []) (Classic made) (Classic whole) did filled words
-    fit refl key same-keys
 
 -- a tree that lacks a part has other keys
 keys-left_out : HaveSameKeys (keys_of left_out) ((97 ∷ []) ∷ (98 ∷ []) ∷ []) → ⊥
@@ -155,8 +145,3 @@ parts-left_out f whole is hashes key filled same =
     at whole 268500992 0 ((97 ∷ []) ∷ (98 ∷ []) ∷ []) 34 alike filled
     ∙ ap (λ h. positions_of_all 64 2 (h ∷ sip 0 0 (98 ∷ []) ∷ []) 34) hash-a
     ∙ ap (λ h. positions_of_all 64 2 (0x4074_48d2_b89b_1813 ∷ h ∷ []) 34) hash-b in cc
-
--- the key of the second part is found
-found-second : AnyPartFoundLaw → (made : DefaultFilter) → Makes shape repeated (Classic made)
-    → contains made (hash_in (Classic made) (98 ∷ [])) ≡ true
-found-second law made did = law shape repeated (Classic made) (98 ∷ []) did (1, lit< tt, refl)
