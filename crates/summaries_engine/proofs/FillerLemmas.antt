@@ -1,5 +1,5 @@
 -- Filters of either kind that take hashes, and the summaries that come of it.
-use Rattle.std.proofs.Common.{◌≡◌, ◌⊎◌, inl, inr, ℕ, ◌/◌, ◌||◌, List, [], ◌∷◌, ◌++◌, map, refl, sym, subst, ◌∙◌, ap, append_assoc, append-nil}
+use Rattle.std.proofs.Common.{◌≡◌, ◌⊎◌, inl, inr, ℕ, ◌/◌, ◌||◌, List, [], ◌++◌, map, refl, sym, subst, ◌∙◌, ap, append_assoc, append-nil}
 use Rattle.bloom_parts.specs.Keys.{HasKey, key_of}
 use Rattle.bloom_parts.specs.Sip.{sip}
 use Rattle.fastbloom.specs.Blocked.{InsertsAllInLines, num_lines_of}
