@@ -1,20 +1,19 @@
--- What is reported about two filters: cases that hold, and near ones that don't.
-use Rattle.std.proofs.Common.{◌≡◌, ◌^◌, ℕ, inl, List, [], ◌∷◌, ◌++◌, codes, get_or, refl, sym, ap, ◌∙◌, lit≤, arith}
+-- What is reported about two filters: cases that hold, and the nearest that don't.
+use Rattle.std.proofs.Common.{◌≡◌, ◌^◌, ℕ, inl, inr, List, [], ◌∷◌, ◌++◌, codes, get_or, refl, sym, ap, ◌∙◌, lit≤, arith}
 use Rattle.std.specs.Fmt.{char_count, digits, padded_integral}
+use Rattle.anyhow.specs.declared.error.Error.{Error}
 use Rattle.bloom_parts.specs.Alike.{EstimatesEach, IsCommon, IsPartOf}
 use Rattle.bloom_parts.specs.Content.{content}
 use Rattle.bloom_parts.specs.Counts.{count_on}
 use Rattle.bloom_parts.specs.Keys.{key_of}
 use Rattle.bloom_parts.specs.declared.math.bracket.Bracket.{Bracket}
-use Rattle.bloom_parts.specs.declared.math.estimate.Estimate.{Estimate}
-use Rattle.summaries_engine.specs.declared.stop.Stop.TheVariants.{Memory}
-use Rattle.summaries_engine.specs.declared.kinds.AnyFilter.TheVariants.{Classic, Blocked}
-use Rattle.summaries_engine.specs.Comparing.{ComparesNamed, StopsComparing, TellsBoth, TellsTwo, bits_text, compared_text, least_share, likeness_text, most_share, ones_of_both}
+use Rattle.summaries_engine.specs.declared.kinds.AnyFilter.TheVariants.{Blocked}
+use Rattle.summaries_engine.specs.declared.stop.Stop.TheVariants.{Memory, Output}
+use Rattle.summaries_engine.specs.Comparing.{ComparesNamed, StopsComparing, TellsBoth, bits_text, ones_of_both}
 use Rattle.summaries_engine.specs.Kinds.{parts_of}
-use Rattle.summaries_engine.proofs.NamedFacts.{counted}
-use Rattle.summaries_engine.proofs.TextFacts.{filter, from, from_to}
+use Rattle.summaries_engine.proofs.Cases.{counted, filter, from, from_to, never}
 
--- a third lies between two units
+-- a third lies between two units, and one is a unit
 abbrev third : Bracket
 third = record {
   low = 3074457345618258602;
@@ -23,71 +22,51 @@ third = record {
   in_range = lit≤ tt;
 }
 
--- it is 33.33 percent at least, and 33.34 at most
-least-third : least_share third ≡ 3333
-least-third = refl
-
-most-third : most_share third ≡ 3334
-most-third = refl
-
--- one is a hundred percent, neither more nor less
 abbrev whole : Bracket
 whole = record { low = 2 ^ 63; high = 2 ^ 63; ordered = lit≤ tt; in_range = lit≤ tt }
 
-least-whole : least_share whole ≡ 10000
-least-whole = refl
-
-most-whole : most_share whole ≡ 10000
-most-whole = refl
-
--- two digits stand behind each point
-likeness-part : likeness_text 5 3334 ≡ codes "likeness: 0.05 to 33.34 %\n"
-unfolding padded_integral digits char_count
-likeness-part = refl
-
--- the five lines
-lines-five : compared_text (from_to 1 2 (lit≤ tt)) (from_to 3 4 (lit≤ tt)) (from_to 5 6 (lit≤ tt))
-    (from 7) third
-    ≡ codes "first: 1 to 2\nsecond: 3 to 4\nunion: 5 to 6\ncommon: 7 or more\n"
-    ++ codes "likeness: 33.33 to 33.34 %\n"
-unfolding padded_integral digits char_count
-lines-five = refl
-
--- one bit of a filter is set, two of another, and three of either
-tells : (first second all common : Estimate) (part : Bracket)
-    → EstimatesEach 64 2 1 2 3 first second all → IsCommon first second all common
-    → IsPartOf common all part
-    → TellsBoth (filter 1) (filter 6) (compared_text first second all common part)
-unfolding content count_on
-tells first second all common part each is_common is_part = record {
-  first = first;
-  second = second;
-  all = all;
-  common = common;
-  part = part;
-  each = each;
-  is_common = is_common;
-  is_part = is_part;
-  is = refl;
-}
-
--- a text that tells the second first tells them not
-tells-second : (rest : List ℕ) → TellsBoth (filter 1) (filter 6) (codes "second: " ++ rest) → ⊥
-tells-second rest told =
-    let letter : ◌≡◌ {A = ℕ} 115 102 = ap (λ t. get_or t 0 0) told.is in
-    absurd (omega (arith, letter))
-
--- a filter lies under its word
-compares : (text : List ℕ) → TellsBoth (filter 1) (filter 6) text
-    → ComparesNamed (λ name f. name ≡ (parts_of f).words) (1 ∷ []) (6 ∷ []) text
-compares text tells_both = record {
-  first = Classic (filter 1);
-  second = Classic (filter 6);
-  is_first = refl;
-  is_second = refl;
-  fits = record { kind = refl; shape = record { words = refl; hashes = refl }; key = refl };
-  tells = tells_both;
-}
+-- one bit of a filter is set, two of another, and three of either. The lines tell both, if these
+-- are the estimates: a third is 33.33 to 33.34 percent, and one is a hundred. Lines in another
+-- order don't
+tells-both : (EstimatesEach 64 2 1 2 3 (from_to 1 2 (lit≤ tt)) (from_to 3 4 (lit≤ tt))
+    (from_to 5 6 (lit≤ tt))
+    → IsCommon (from_to 1 2 (lit≤ tt)) (from_to 3 4 (lit≤ tt)) (from_to 5 6 (lit≤ tt)) (from 7)
+    → IsPartOf (from 7) (from_to 5 6 (lit≤ tt)) third → TellsBoth (filter 1) (filter 6)
+    (codes "first: 1 to 2\nsecond: 3 to 4\nunion: 5 to 6\ncommon: 7 or more\n"
+    ++ codes "likeness: 33.33 to 33.34 %\n"))
+    × (EstimatesEach 64 2 1 1 1 (from 1) (from 1) (from 1) → IsCommon (from 1) (from 1) (from 1)
+    (from 1) → IsPartOf (from 1) (from 1) whole → TellsBoth (filter 1) (filter 1)
+    (codes "first: 1 or more\nsecond: 1 or more\nunion: 1 or more\ncommon: 1 or more\n"
+    ++ codes "likeness: 100.00 to 100.00 %\n"))
+    × ((later : List ℕ) → TellsBoth (filter 1) (filter 6) (codes "second: " ++ later) → ⊥)
+unfolding padded_integral digits char_count content count_on
+tells-both = (
+  λ each is_common is_part. record {
+    first = from_to 1 2 (lit≤ tt);
+    second = from_to 3 4 (lit≤ tt);
+    all = from_to 5 6 (lit≤ tt);
+    common = from 7;
+    part = third;
+    each = each;
+    is_common = is_common;
+    is_part = is_part;
+    is = refl;
+  },
+  λ each is_common is_part. record {
+    first = from 1;
+    second = from 1;
+    all = from 1;
+    common = from 1;
+    part = whole;
+    each = each;
+    is_common = is_common;
+    is_part = is_part;
+    is = refl;
+  },
+  λ later told.
+      let letter : ◌≡◌ {A = ℕ} 115 102 = ap (λ t. get_or t 0 0) told.is in
+      absurd (omega (arith, letter)),
+)
 
 -- one bit is set in both of two words, and two are in both where they are one
 ones-both : (ones_of_both (filter 3) (filter 6) ≡ 1) × (ones_of_both (filter 3) (filter 3) ≡ 2)
@@ -95,45 +74,46 @@ unfolding content count_on
 ones-both = (refl, refl)
 
 -- the four lines of bits
-lines-four : bits_text 1 2 3 4
+lines-of-bits : bits_text 1 2 3 4
     ≡ codes "bits set in first: 1\nbits set in second: 2\n"
     ++ codes "bits set in union: 3\nbits set in both: 4\n"
 unfolding digits
-lines-four = refl
+lines-of-bits = refl
 
--- of blocked filters the bits are told that are set in each, in either and in both
-tells-blocked : TellsTwo (Blocked (filter 3)) (Blocked (filter 6))
+-- blocked filters that lie under their words are told by their bits. Filters aren't compared where
+-- their keys or their numbers of hashes differ
+compares : ComparesNamed (λ name f. f ≡ Blocked (filter (get_or name 0 0))) (3 ∷ []) (6 ∷ [])
     (codes "bits set in first: 2\nbits set in second: 2\n"
     ++ codes "bits set in union: 3\nbits set in both: 1\n")
+    × ((text : List ℕ) → ComparesNamed (λ name f. name ≡ (key_of (parts_of f).hasher).0 ∷ [])
+    (0 ∷ []) (1 ∷ []) text → ⊥)
+    × ((text : List ℕ) → ComparesNamed counted (2 ∷ []) (3 ∷ []) text → ⊥)
 unfolding content count_on digits
-tells-blocked = refl
+compares = (
+  record {
+    first = Blocked (filter 3);
+    second = Blocked (filter 6);
+    is_first = refl;
+    is_second = refl;
+    fits = record { kind = refl; shape = record { words = refl; hashes = refl }; key = refl };
+    tells = refl;
+  },
+  λ text is.
+      let wrong : ◌≡◌ {A = List ℕ} (0 ∷ []) (1 ∷ []) =
+      is.is_first ∙ ap (λ pair. pair.0 ∷ []) is.fits.key ∙ sym is.is_second in cc,
+  λ text is.
+      let wrong : ◌≡◌ {A = List ℕ} (2 ∷ []) (3 ∷ []) =
+      is.is_first ∙ ap (λ n. n ∷ []) is.fits.shape.hashes ∙ sym is.is_second in cc,
+)
 
--- what both have isn't what either has
-tells-either : TellsTwo (Blocked (filter 3)) (Blocked (filter 6))
-    (codes "bits set in first: 2\nbits set in second: 2\n"
-    ++ codes "bits set in union: 3\nbits set in both: 3\n") → ⊥
-unfolding content count_on digits
-tells-either told =
-    let digit : ◌≡◌ {A = ℕ} 51 49 = ap (λ t. get_or t 82 0) told in absurd (omega (arith, digit))
-
--- filters of two kinds are told by no text
-tells-kinds : (text : List ℕ) → TellsTwo (Classic (filter 1)) (Blocked (filter 1)) text → ⊥
-tells-kinds text told = told
-
--- filters whose keys differ aren't compared; here one lies under the first word of its key
-compares-keys : (text : List ℕ)
-    → ComparesNamed (λ name f. name ≡ (key_of (parts_of f).hasher).0 ∷ []) (0 ∷ []) (1 ∷ []) text
-    → ⊥
-compares-keys text is =
-    let wrong : ◌≡◌ {A = List ℕ} (0 ∷ []) (1 ∷ []) =
-    is.is_first ∙ ap (λ pair. pair.0 ∷ []) is.fits.key ∙ sym is.is_second in cc
-
--- filters with two and with three hashes aren't compared
-compares-shapes : (text : List ℕ) → ComparesNamed counted (2 ∷ []) (3 ∷ []) text → ⊥
-compares-shapes text is =
-    let wrong : ◌≡◌ {A = List ℕ} (2 ∷ []) (3 ∷ []) =
-    is.is_first ∙ ap (λ n. n ∷ []) is.fits.shape.hashes ∙ sym is.is_second in cc
-
--- memory may be out
-stops-memory : StopsComparing counted (λ name stop. ⊥) (2 ∷ []) (3 ∷ []) Memory
-stops-memory = inl tt
+-- memory may be out, and no write fails
+stops : (said : Error)
+    → StopsComparing counted never (2 ∷ []) (3 ∷ []) Memory
+    × (StopsComparing counted never (2 ∷ []) (3 ∷ []) (Output said) → ⊥)
+stops said = (inl tt, output)
+  where
+    output : StopsComparing counted never (2 ∷ []) (3 ∷ []) (Output said) → ⊥
+    output (inl memory) = memory
+    output (inr (inl none)) = none.1
+    output (inr (inr (inl unloaded))) = unloaded.failed
+    output (inr (inr (inr misfit))) = misfit.says

@@ -1,5 +1,5 @@
 -- Filters of either kind that were filled with hashes.
-use Rattle.std.proofs.Common.{◌≡◌, inl, inr, ℕ, ◌*◌, ◌/◌, Bool, true, false, ◌||◌, List, [], ◌∷◌, ◌++◌, length, refl, sym, ◌∙◌, ap, arith}
+use Rattle.std.proofs.Common.{◌≡◌, inl, inr, ℕ, ◌*◌, ◌/◌, Bool, true, false, ◌||◌, List, [], ◌∷◌, ◌++◌, refl, sym, ◌∙◌, ap, arith}
 use Rattle.std.proofs.lemmas.Bool.{or_cases}
 use Rattle.std.proofs.lemmas.List.Elements.{Contains-append_right}
 use Rattle.std.proofs.lemmas.List.Folds.{list_any-append, list_any_at}
@@ -9,7 +9,8 @@ use Rattle.bloom_parts.specs.declared.hasher.CloneBuildHasher.{CloneBuildHasher}
 use Rattle.bloom_parts.specs.declared.hasher.sip.RandomDefaultHasher.{RandomDefaultHasher}
 use Rattle.bloom_files.specs.declared.layout.Layout.{Layout}
 use Rattle.bloom_files.specs.declared.layout.Layout.TheVariants.{Whole, Lines}
-use Rattle.fastbloom.specs.Fill.{AnyCuttingLaw, FilledContainsLaw, HaveSameHashes, hashes_of, positions_of_all, words_of}
+use Rattle.fastbloom.specs.Data.{DefaultFilter}
+use Rattle.fastbloom.specs.Fill.{AnyCuttingLaw, FilledContainsLaw, HaveSameHashes, IsFilledWith, hashes_of, words_of}
 use Rattle.fastbloom.specs.Laws.{EqualContentLaw, EqualityLaw}
 use Rattle.fastbloom.specs.Lines.{LineSubsetLaw, are_in_line, line_positions}
 use Rattle.fastbloom.specs.declared.parallel.shape.Shape.{Shape}
@@ -17,18 +18,11 @@ use Rattle.fastbloom.proofs.FillLemmas.{positions_of_all-append}
 use Rattle.summaries_engine.specs.declared.kinds.AnyFilter.{AnyFilter}
 use Rattle.summaries_engine.specs.declared.kinds.AnyFilter.TheVariants.{Classic, Blocked}
 use Rattle.summaries_engine.specs.Kinds.{HaveSameKind, UnitesParts, has_hash, layout_of, parts_of}
-use Rattle.summaries_engine.specs.Summaries.{IsFilled}
+use Rattle.summaries_engine.specs.Summaries.{IsFilled, positions_in}
 
 -- the hashers of default filters
 abbrev pub Builder : Type 0
 Builder = CloneBuildHasher RandomDefaultHasher
-
--- the positions of hashes in filters of this layout and shape
-abbrev pub positions_in : Layout → Shape → List ℕ → ℕ → Bool
-positions_in Whole shape hashes p =
-    positions_of_all (64 * words_of shape) (hashes_of shape) hashes p
-positions_in Lines shape hashes p =
-    list_any (λ hash. line_positions (words_of shape / 8) (hashes_of shape) hash p) hashes
 
 -- no hash has positions
 pub positions-none : (layout : Layout) (shape : Shape) (p : ℕ)
@@ -45,36 +39,21 @@ positions-append Whole shape xs ys p =
 positions-append Lines shape xs ys p =
     list_any-append (λ hash. line_positions (words_of shape / 8) (hashes_of shape) hash p) xs ys
 
--- what is said of a filter of either kind that was filled
-pub record HasFilled (shape : Shape) (hashes : List ℕ) (f : AnyFilter) : Type 0 where
-  pub words : length (parts_of f).words ≡ words_of shape
-  pub num_hashes : (parts_of f).hashes ≡ hashes_of shape
-  pub bits : (p : ℕ) → content (parts_of f).words p ≡ positions_in (layout_of f) shape hashes p
-
-pub filled-is : (shape : Shape) (hashes : List ℕ) (f : AnyFilter) → IsFilled shape hashes f
-    → HasFilled shape hashes f
-filled-is shape hashes (Classic f) filled = record {
-  words = filled.words;
-  num_hashes = filled.num_hashes;
-  bits = filled.bits;
-}
-filled-is shape hashes (Blocked f) filled = record {
+-- the library's words for a Bloom filter that was filled say the same
+pub filled-with : (shape : Shape) (hashes : List ℕ) (f : DefaultFilter)
+    → IsFilled shape hashes (Classic f) → IsFilledWith shape hashes f
+filled-with shape hashes f filled = record {
   words = filled.words;
   num_hashes = filled.num_hashes;
   bits = filled.bits;
 }
 
-pub filled-from : (shape : Shape) (hashes : List ℕ) (f : AnyFilter) → HasFilled shape hashes f
-    → IsFilled shape hashes f
-filled-from shape hashes (Classic f) has = record {
-  words = has.words;
-  num_hashes = has.num_hashes;
-  bits = has.bits;
-}
-filled-from shape hashes (Blocked f) has = record {
-  words = has.words;
-  num_hashes = has.num_hashes;
-  bits = has.bits;
+pub with-filled : (shape : Shape) (hashes : List ℕ) (f : DefaultFilter)
+    → IsFilledWith shape hashes f → IsFilled shape hashes (Classic f)
+with-filled shape hashes f filled = record {
+  words = filled.words;
+  num_hashes = filled.num_hashes;
+  bits = filled.bits;
 }
 
 -- a union adds the hashes of the other
@@ -82,19 +61,16 @@ pub filled-union : (shape : Shape) (old other new : AnyFilter) (hashes others : 
     → IsFilled shape hashes old → IsFilled shape others other → HaveSameKind old other
     → UnitesParts old other new → IsFilled shape (hashes ++ others) new
 filled-union shape old other new hashes others filled added kind united =
-    let one = filled-is shape hashes old filled in
-    let two = filled-is shape others other added in
-    let layout = layout_of old in
-    filled-from shape (hashes ++ others) new (record {
-      words = sym united.parts.shape.words ∙ one.words;
-      num_hashes = sym united.parts.shape.hashes ∙ one.num_hashes;
+    let layout = layout_of old in record {
+      words = sym united.parts.shape.words ∙ filled.words;
+      num_hashes = sym united.parts.shape.hashes ∙ filled.num_hashes;
       bits = λ p. united.parts.bits p
-          ∙ ap (λ b. b || content (parts_of other).words p) (one.bits p)
+          ∙ ap (λ b. b || content (parts_of other).words p) (filled.bits p)
           ∙ ap (λ b. positions_in layout shape hashes p || b)
-          (two.bits p ∙ ap (λ l. positions_in l shape others p) (sym kind))
+          (added.bits p ∙ ap (λ l. positions_in l shape others p) (sym kind))
           ∙ sym (positions-append layout shape hashes others p)
           ∙ ap (λ l. positions_in l shape (hashes ++ others) p) united.kind;
-    })
+    }
 
 -- two truth values that imply each other are equal
 both-ways : (a b : Bool) → (a ≡ true → b ≡ true) → (b ≡ true → a ≡ true) → a ≡ b
@@ -130,7 +106,9 @@ pub filled-alike : EqualityLaw Builder → EqualContentLaw Builder → AnyCuttin
     → ((parts_of f).words ≡ (parts_of g).words) × ((parts_of f).hashes ≡ (parts_of g).hashes)
 filled-alike equality contents cutting shape (Classic f) (Classic g) hashes others f_words g_words
     kind one other same =
-    (equality f g).0 (cutting shape f g hashes others f_words g_words one other same)
+    (equality f g).0
+    (cutting shape f g hashes others f_words g_words (filled-with shape hashes f one)
+    (filled-with shape others g other) same)
 filled-alike equality contents cutting shape (Classic f) (Blocked g) hashes others f_words g_words
     kind one other same = cc
 filled-alike equality contents cutting shape (Blocked f) (Classic g) hashes others f_words g_words
@@ -152,7 +130,7 @@ pub filled-contains : FilledContainsLaw Builder → LineSubsetLaw → (shape : S
     (hashes : List ℕ) (hash : ℕ) → IsFilled shape hashes f → Contains hashes hash
     → has_hash f hash ≡ true
 filled-contains contains_all subset shape (Classic f) hashes hash filled given =
-    contains_all shape f hashes hash filled given
+    contains_all shape f hashes hash (filled-with shape hashes f filled) given
 filled-contains contains_all subset shape (Blocked f) hashes hash filled given =
     let lines = words_of shape / 8 in
     let k = hashes_of shape in

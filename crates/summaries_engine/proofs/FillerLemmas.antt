@@ -1,5 +1,5 @@
 -- Filters of either kind that take hashes, and the summaries that come of it.
-use Rattle.std.proofs.Common.{◌≡◌, ◌⊎◌, inl, inr, ℕ, ◌/◌, ◌||◌, List, [], ◌∷◌, ◌++◌, map, refl, sym, subst, ◌∙◌, ap, append_assoc, append-nil}
+use Rattle.std.proofs.Common.{◌≡◌, ◌⊎◌, inl, inr, ℕ, ◌/◌, ◌||◌, List, [], ◌++◌, map, refl, sym, subst, ◌∙◌, ap, append_assoc, append-nil}
 use Rattle.bloom_parts.specs.Keys.{HasKey, key_of}
 use Rattle.bloom_parts.specs.Sip.{sip}
 use Rattle.fastbloom.specs.Blocked.{InsertsAllInLines, num_lines_of}
@@ -17,7 +17,7 @@ use Rattle.summaries_engine.specs.Inputs.{HashesInputs, Lies, SummarizesInputs}
 use Rattle.summaries_engine.specs.Kinds.{layout_of, parts_of}
 use Rattle.summaries_engine.specs.Sizes.{IsEmpty, IsShapeOf}
 use Rattle.summaries_engine.specs.Summaries.{IsFilled, joined}
-use Rattle.summaries_engine.proofs.FilledLemmas.{Builder, filled-from, positions-append, positions-none}
+use Rattle.summaries_engine.proofs.FilledLemmas.{Builder, filled-with, positions-append, positions-none, with-filled}
 
 -- hashes were taken, and then further ones
 pub takes-more : (first old new : AnyFilter) (before hashes : List ℕ) → Takes first before old
@@ -34,7 +34,9 @@ takes-more first old new before hashes one two = record {
 pub takes-inserted : FilledByInsertsLaw Builder → (old new : DefaultFilter) (hashes : List ℕ)
     → InsertsAll old hashes new → Takes (Classic old) hashes (Classic new)
 takes-inserted law old new hashes did = record {
-  filled = λ shape before is. law shape old new before hashes is did;
+  filled = λ shape before is.
+      with-filled shape (before ++ hashes) new
+      (law shape old new before hashes (filled-with shape before old is) did);
   kind = refl;
   hasher = did.1.hasher;
 }
@@ -68,11 +70,11 @@ first-of (inr never) = absurd never
 -- an empty filter is filled with no hash
 pub filled-empty : (shape : Shape) (f : AnyFilter) → IsEmpty (parts_of f)
     → IsShapeOf (parts_of f) shape → IsFilled shape [] f
-filled-empty shape f is fits = filled-from shape [] f (record {
+filled-empty shape f is fits = record {
   words = sym fits.words;
   num_hashes = sym fits.hashes;
   bits = λ p. is.clear p ∙ sym (positions-none (layout_of f) shape p);
-})
+}
 
 module _ (empty made : AnyFilter) (hashes : List ℕ) (is : IsEmpty (parts_of empty))
     (did : Takes empty hashes made) where

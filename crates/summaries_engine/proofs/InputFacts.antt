@@ -1,149 +1,87 @@
--- Keys of several inputs: cases that hold, and some that nearly do. The inputs "j" and "k" have the
--- keys "a" and "b", bytes 97 and 98; the last key of "j" has no end.
-use Rattle.std.proofs.Common.{◌≡◌, ◌≤◌, ℕ, true, false, List, [], ◌∷◌, ◌++◌, codes, length, map, get_or, Option, Some, refl, sym, ap, subst, inl, inr, ◌⊎◌, arith}
-use Rattle.std.proofs.lemmas.List.Elements.{All-from_recursion}
+-- Keys of several inputs, each of which has the bytes of its own name: cases that hold, and the
+-- nearest that don't.
+use Rattle.std.proofs.Common.{◌≡◌, ℕ, true, false, List, [], ◌∷◌, length, map, get_or, Some, refl, sym, ap, subst, ◌∙◌, arith}
+use Rattle.bloom_parts.specs.Chain.{chain}
 use Rattle.bloom_parts.specs.Content.{content}
+use Rattle.bloom_parts.specs.Places.{are_in, positions}
 use Rattle.bloom_parts.specs.Sip.{sip, start, round, absorb, answer, whole_words, rest}
 use Rattle.fastbloom.specs.Data.{DefaultFilter}
-use Rattle.lines.specs.Lines.{lines_by}
-use Rattle.lines.specs.Reading.{AreShort, IsReadWholeBy}
-use Rattle.summaries_engine.specs.declared.answers.Wanted.TheVariants.{Found}
-use Rattle.summaries_engine.specs.declared.kinds.AnyFilter.{AnyFilter}
+use Rattle.fastbloom.specs.Fill.{positions_of_all}
+use Rattle.summaries_engine.specs.declared.answers.Wanted.TheVariants.{Found, Absent}
 use Rattle.summaries_engine.specs.declared.kinds.AnyFilter.TheVariants.{Classic}
-use Rattle.summaries_engine.specs.Answers.{wanted_text}
-use Rattle.summaries_engine.specs.Inputs.{AnswersInputs, HasKeys, HashesInputs, HaveKeys, StopsAt, SummarizesInputs}
-use Rattle.summaries_engine.specs.Summaries.{IsSummaryOf, joined}
-use Rattle.summaries_engine.proofs.SummaryFacts.{IsFilter, at, shape, summary-a}
+use Rattle.summaries_engine.specs.Answers.{IsKeyed, wanted_text}
+use Rattle.summaries_engine.specs.Inputs.{AnswersInputs, HashesInputs, SummarizesInputs}
+use Rattle.summaries_engine.specs.Summaries.{IsSummaryOf}
+use Rattle.summaries_engine.proofs.Cases.{both-keys, hash-a, key_a, key_b, made_of, of_a, of_b, one-key, own, shape, summary-a}
 
--- what lies under the two names
-abbrev pub two : List ℕ → Option (List ℕ) → Type 0
-two name read = ((name ≡ codes "j") × (read ≡ Some (97 ∷ [])))
-    ⊎ ((name ≡ codes "k") × (read ≡ Some (98 ∷ 10 ∷ [])))
-
-short : (key : List ℕ) → length key ≤ 65536 → AreShort 65536 (key ∷ [])
-short key few = All-from_recursion (λ key. length key ≤ 65536) (key ∷ []) (few, tt)
-
--- the keys of both: the last of "j" isn't joined with the first of "k"
-pub both : HaveKeys two 10 (codes "j" ∷ codes "k" ∷ []) (((97 ∷ []) ∷ []) ∷ ((98 ∷ []) ∷ []) ∷ [])
-unfolding lines_by
-both = (
-  record {
-    read = Some (97 ∷ []);
-    left = Some [];
-    there = inl (refl, refl);
-    whole = record { are_lines = refl; none_left = refl };
-    short = short (97 ∷ []) (omega arith);
-  },
-  (
-    record {
-      read = Some (98 ∷ 10 ∷ []);
-      left = Some [];
-      there = inr (refl, refl);
-      whole = record { are_lines = refl; none_left = refl };
-      short = short (98 ∷ []) (omega arith);
-    },
-    tt,
-  ),
+-- the hashers of a filter have its key and have taken in nothing
+keyed : IsKeyed (Classic (made_of [] 2 3 4))
+    × ((f : DefaultFilter) → f.hasher.hasher.count ≡ 1 → IsKeyed (Classic f) → ⊥)
+unfolding whole_words rest
+keyed = (
+  record { low = refl; high = refl; words = refl; held = refl; count = refl },
+  λ f one is. let wrong : 1 ≡ 0 = sym one ∙ is.count in omega (arith, wrong),
 )
 
--- all keys, in the order of the names
-keys : joined (((97 ∷ []) ∷ []) ∷ ((98 ∷ []) ∷ []) ∷ []) ≡ (97 ∷ []) ∷ (98 ∷ []) ∷ []
-keys = refl
-
--- no input may be left out
-left-out : HaveKeys two 10 (codes "j" ∷ codes "k" ∷ []) (((97 ∷ []) ∷ []) ∷ []) → ⊥
-left-out has = has.1
-
--- nor may one be taken that has no name
-unnamed : HaveKeys two 10 [] (((97 ∷ []) ∷ []) ∷ []) → ⊥
-unnamed has = has
-
--- the keys are those of the input's bytes
-other-keys : (has : HasKeys two 10 (codes "j") ((98 ∷ []) ∷ [])) → has.read ≡ Some (97 ∷ []) → ⊥
-unfolding lines_by
-other-keys has is =
-    let same : ◌≡◌ {A = List (List ℕ)} ((97 ∷ []) ∷ []) ((98 ∷ []) ∷ []) =
-    (subst (λ read. IsReadWholeBy 10 read has.left ((98 ∷ []) ∷ [])) is has.whole).are_lines in
-    let byte : ◌≡◌ {A = ℕ} 97 98 = ap (λ l. get_or (get_or l 0 []) 0 0) same in
-    omega (arith, byte)
-
--- a run that stops at "k" took the keys of "j"
-at-second : StopsAt two 10 (codes "j" ∷ codes "k" ∷ [])
-    (λ keys name. (keys ≡ (97 ∷ []) ∷ []) × (name ≡ codes "k"))
-at-second = record {
-  parts = ((97 ∷ []) ∷ []) ∷ [];
-  before = codes "j" ∷ [];
-  name = codes "k";
-  after = [];
-  are = refl;
-  keys = (both.0, tt);
-  within = (refl, refl);
-}
-
--- no run stops at a name where there is none
-pub at-none : (Within : List (List ℕ) → List ℕ → Type 0) → StopsAt two 10 [] Within → ⊥
-at-none Within stop = none stop.before stop.are
-  where
-    none : (before : List (List ℕ)) → [] ≡ before ++ stop.name ∷ stop.after → ⊥
-    none [] is = cc (is)
-    none (name ∷ before) is = cc (is)
-
--- ---- what is made of the keys
-
--- the hashes of both
-hashes-both : HashesInputs two (0, 0) 10 (codes "j" ∷ codes "k" ∷ [])
+-- the hashes of both inputs come in order, and the hash of "a" isn't that of "b"
+hashes : HashesInputs own (0, 0) 10 (key_a ∷ (98 ∷ 10 ∷ []) ∷ [])
     (0x4074_48d2_b89b_1813 ∷ 0x8b22_cf26_02fb_60ce ∷ [])
+    × (HashesInputs own (0, 0) 10 (key_a ∷ []) (0x8b22_cf26_02fb_60ce ∷ []) → ⊥)
 unfolding sip start round absorb answer whole_words rest
-hashes-both = record {
-  parts = ((97 ∷ []) ∷ []) ∷ ((98 ∷ []) ∷ []) ∷ [];
-  keys = both;
-  hashed = refl;
-}
+hashes = (
+  record {
+    parts = (key_a ∷ []) ∷ (key_b ∷ []) ∷ [];
+    keys = both-keys;
+    hashed = refl;
+  },
+  λ is.
+      let same : ◌≡◌ {A = List ℕ} (0x8b22_cf26_02fb_60ce ∷ []) (0x4074_48d2_b89b_1813 ∷ []) =
+      is.hashed ∙ ap (map (sip 0 0)) (one-key is.parts is.keys) in
+      let wrong : 0x8b22_cf26_02fb_60ce ≡ 0x4074_48d2_b89b_1813 = ap (λ l. get_or l 0 0) same in
+      omega (arith, wrong),
+)
 
--- no hash is that of no key
-hashes-more : HashesInputs two (0, 0) 10 [] (1 ∷ []) → ⊥
-hashes-more is = by is.parts is.keys is.hashed
-  where
-    by : (parts : List (List (List ℕ))) → HaveKeys two 10 [] parts
-        → 1 ∷ [] ≡ map (sip 0 0) (joined parts) → ⊥
-    by [] keys same = let wrong : 1 ≡ 0 = ap length same in omega (arith, wrong)
-    by (part ∷ parts) keys same = keys
+-- the summary of the keys of an input isn't that of other keys
+summarizes : SummarizesInputs own 10 (key_a ∷ []) shape of_a
+    × (SummarizesInputs own 10 (key_a ∷ []) shape of_b → ⊥)
+unfolding content positions chain
+summarizes = (
+  record { parts = (key_a ∷ []) ∷ []; keys = (both-keys.0, tt); summary = summary-a },
+  λ did.
+      let summary : IsSummaryOf shape (key_a ∷ []) of_b =
+      subst (λ keys. IsSummaryOf shape keys of_b) (one-key did.parts did.keys) did.summary in
+      let wrong : true ≡ false =
+      summary.bits 34 ∙ ap (λ h. positions_of_all 64 2 (h ∷ []) 34) hash-a in cc,
+)
 
--- the summary of the keys of "j"
-summarizes-first : (f : DefaultFilter) → IsFilter f 268500992 0
-    → SummarizesInputs two 10 (codes "j" ∷ []) shape (Classic f)
-summarizes-first f is = record {
-  parts = ((97 ∷ []) ∷ []) ∷ [];
-  keys = (both.0, tt);
-  summary = summary-a f is;
-}
+-- the filter of "a" has "a" alone of both keys, and lacks "b" alone. A zero byte ends a key in
+-- place of byte 10
+pub text-of-keys : (wanted_text of_a Found 10 (key_b ∷ key_a ∷ []) ≡ 97 ∷ 10 ∷ [])
+    × (wanted_text of_a Absent 0 (key_b ∷ key_a ∷ []) ≡ 98 ∷ 0 ∷ [])
+    × (wanted_text of_a Found 10 (key_a ∷ []) ≡ 97 ∷ 10 ∷ [])
+    × (wanted_text of_a Absent 10 (key_a ∷ []) ≡ [])
+    × (wanted_text of_a Found 10 (key_a ∷ key_b ∷ []) ≡ 97 ∷ 10 ∷ [])
+unfolding sip start round absorb answer whole_words rest content chain are_in
+text-of-keys = (refl, refl, refl, refl, refl)
 
--- it isn't that of no input
-summarizes-none : (f : DefaultFilter) → IsFilter f 268500992 0
-    → SummarizesInputs two 10 [] shape (Classic f) → ⊥
-unfolding content
-summarizes-none f is did = by did.parts did.keys did.summary
-  where
-    by : (parts : List (List (List ℕ))) → HaveKeys two 10 [] parts
-        → IsSummaryOf shape (joined parts) (Classic f) → ⊥
-    by [] keys summary = let wrong : true ≡ false = at f 268500992 0 [] 16 is summary in cc
-    by (part ∷ parts) keys summary = keys
-
-module _ (f : AnyFilter) where
-  -- the reply for "a" is written where it is wanted
-  answers-first : wanted_text f Found 10 ((97 ∷ []) ∷ []) ≡ 97 ∷ 10 ∷ []
-      → AnswersInputs two f Found 10 (codes "j" ∷ []) (Some []) (Some (97 ∷ 10 ∷ []))
-  answers-first told = record {
-    parts = ((97 ∷ []) ∷ []) ∷ [];
-    keys = (both.0, tt);
-    text = sym told;
-  }
-
-  -- where no key is asked for, none is
-  answers-none : AnswersInputs two f Found 10 [] (Some []) (Some (97 ∷ 10 ∷ [])) → ⊥
-  answers-none is = by is.parts is.keys is.text
-    where
-      by : (parts : List (List (List ℕ))) → HaveKeys two 10 [] parts
-          → 97 ∷ 10 ∷ [] ≡ wanted_text f Found 10 (joined parts) → ⊥
-      by [] keys text = let wrong : 2 ≡ 0 = ap length text in omega (arith, wrong)
-      by (part ∷ parts) keys text = keys
+-- the replies to all keys are written behind what was there. A key that is in isn't left out, nor
+-- written as absent
+answers : AnswersInputs own of_a Found 10 (key_a ∷ (98 ∷ 10 ∷ []) ∷ []) (Some (5 ∷ []))
+    (Some (5 ∷ 97 ∷ 10 ∷ []))
+    × (AnswersInputs own of_a Found 10 (key_a ∷ []) (Some []) (Some []) → ⊥)
+    × (AnswersInputs own of_a Absent 10 (key_a ∷ []) (Some []) (Some (97 ∷ 10 ∷ [])) → ⊥)
+answers = (
+  record {
+    parts = (key_a ∷ []) ∷ (key_b ∷ []) ∷ [];
+    keys = both-keys;
+    text = ap (λ text. 5 ∷ text) (sym text-of-keys.4);
+  },
+  λ is.
+      let same : ◌≡◌ {A = List ℕ} [] (97 ∷ 10 ∷ []) =
+      is.text ∙ ap (wanted_text of_a Found 10) (one-key is.parts is.keys) ∙ text-of-keys.2 in
+      let wrong : 0 ≡ 2 = ap length same in omega (arith, wrong),
+  λ is.
+      let same : ◌≡◌ {A = List ℕ} (97 ∷ 10 ∷ []) [] =
+      is.text ∙ ap (wanted_text of_a Absent 10) (one-key is.parts is.keys) ∙ text-of-keys.3 in
+      let wrong : 2 ≡ 0 = ap length same in omega (arith, wrong),
+)

@@ -1,99 +1,84 @@
--- What is reported about errors, by their kinds: cases that hold, and some that nearly do.
-use Rattle.std.proofs.Common.{◌≡◌, ℕ, Some, codes, get_or, inl, inr, refl, ap, arith}
-use Rattle.std.specs.Fmt.Cut.{EndsInDots}
-use Rattle.std.specs.declared.io.ErrorKind.TheVariants as kind
-use Rattle.anyhow.specs.Error.{HasMessage, error_message}
-use Rattle.anyhow.specs.declared.error.Error.{Error}
-use Rattle.bloom_files.specs.declared.error.FileError.TheVariants as file_error
-use Rattle.summaries_engine.specs.declared.stop.Stop.TheVariants.{Memory, Input, Bad, Output}
-use Rattle.summaries_engine.specs.Loaded.{IsReportedOf, IsReportedOfText}
-use Rattle.summaries_engine.specs.Stops.{IsUnput, IsUnreadAs, SaysOver}
-use Rattle.summaries_engine.proofs.StopFacts.{says-other}
+-- Filters of either kind: cases that hold, and the nearest that don't.
+use Rattle.std.proofs.Common.{◌≡◌, true, false, ◌||◌, ◌&&◌, [], ◌∷◌, refl, ap, ◌∙◌, arith}
+use Rattle.std.proofs.lemmas.Bool.{le-ltb}
+use Rattle.std.specs.Prelude.{nat_lt, slice_index}
+use Rattle.bloom_files.specs.declared.layout.Layout.TheVariants.{Whole, Lines}
+use Rattle.bloom_parts.specs.Chain.{chain}
+use Rattle.bloom_parts.specs.Content.{content}
+use Rattle.bloom_parts.specs.Places.{are_in}
+use Rattle.bloom_plain.proofs.CaseLemmas.{content-case, content-past}
+use Rattle.fastbloom.specs.Data.{DefaultFilter}
+use Rattle.fastbloom.specs.FilterFiles.{file_of}
+use Rattle.summaries_engine.specs.declared.kinds.AnyFilter.TheVariants.{Classic, Blocked}
+use Rattle.summaries_engine.specs.Kinds.{HaveSameKind, HaveSameShape, TellsEach, UnitesParts, file_of_kind, has_hash, parts_of}
+use Rattle.summaries_engine.proofs.Cases.{line, made_of, of_a}
 
--- a read for which there was no memory
-kind-memory : IsUnreadAs kind.OutOfMemory (codes "k") Memory
-kind-memory = record { memory = λ is. tt; other = λ no. absurd (no refl) }
+-- the parts are the filter's own
+parts : (f : DefaultFilter) → (parts_of (Classic f) ≡ f) × (parts_of (Blocked f) ≡ f)
+parts f = (refl, refl)
 
--- a broken pipe isn't reported as memory
-kind-pipe : IsUnreadAs kind.BrokenPipe (codes "k") Memory → ⊥
-kind-pipe told = told.other (λ is. cc)
+-- words in lines have the key as a blocked filter, and not as another
+has-key : (has_hash (Blocked (line 268435968)) 0x4074_48d2_b89b_1813 ≡ true)
+    × (has_hash (Classic (line 268435968)) 0x4074_48d2_b89b_1813 ≡ false)
+unfolding content are_in chain
+has-key = (refl, refl)
 
--- there was no memory for a text
-unput-memory : IsUnput Memory
-unput-memory = inl tt
+-- of "a" and "b" the first is found: its bit is set, and neither that of the second nor a third one
+tells-each : (TellsEach of_a (0x4074_48d2_b89b_1813 ∷ 0x8b22_cf26_02fb_60ce ∷ []) (1 ∷ []))
+    × (TellsEach of_a (0x4074_48d2_b89b_1813 ∷ 0x8b22_cf26_02fb_60ce ∷ []) (0 ∷ []) → ⊥)
+    × (TellsEach of_a (0x4074_48d2_b89b_1813 ∷ 0x8b22_cf26_02fb_60ce ∷ []) (3 ∷ []) → ⊥)
+    × (TellsEach of_a (0x4074_48d2_b89b_1813 ∷ 0x8b22_cf26_02fb_60ce ∷ []) (5 ∷ []) → ⊥)
+unfolding content are_in chain
+tells-each = (
+  content-case (1 ∷ [])
+      (λ i. nat_lt i 2 && has_hash of_a
+      (slice_index (0x4074_48d2_b89b_1813 ∷ 0x8b22_cf26_02fb_60ce ∷ []) i)) refl
+      (λ i past. ap (λ b. b && has_hash of_a
+      (slice_index (0x4074_48d2_b89b_1813 ∷ 0x8b22_cf26_02fb_60ce ∷ []) i))
+      (le-ltb i 2 (omega (arith, past)))),
+  λ told. let wrong : false ≡ true = told 0 in cc,
+  λ told. let wrong : true ≡ false = told 1 in cc,
+  λ told. let wrong : true ≡ false = told 2 in cc,
+)
 
--- memory isn't reported about a file whose read failed
-reported-input : IsReportedOf (codes "a") (file_error.Input kind.BrokenPipe) Memory → ⊥
-reported-input told = told.other (λ is. cc)
+-- the file of a blocked filter is one of lines, and that of another isn't
+files : (f : DefaultFilter) → (file_of_kind (Blocked f) ≡ file_of Lines f)
+    × (file_of_kind (Classic f) ≡ file_of Whole f)
+files f = (refl, refl)
 
--- nor of a text whose read failed, nor of one that isn't UTF-8
-text-pipe : IsReportedOfText kind.BrokenPipe (codes "a") Memory → ⊥
-text-pipe told = (told.other (λ is. cc)).other (λ is. cc)
+-- two blocked filters are of one kind, and a blocked one isn't of that of another
+same-kind : (f g : DefaultFilter)
+    → HaveSameKind (Blocked f) (Blocked g) × (HaveSameKind (Blocked f) (Classic f) → ⊥)
+same-kind f g = (refl, λ same. let wrong : Lines ≡ Whole = same in cc)
 
-text-bytes : IsReportedOfText kind.InvalidData (codes "a") Memory → ⊥
-text-bytes told = told.none refl
+-- the shape doesn't tell the kind, and differs by a hash or a word
+same-shape : (HaveSameShape (Blocked (line 1)) (Classic (line 2)))
+    × (HaveSameShape (Blocked (made_of (1 ∷ []) 2 0 0)) (Blocked (made_of (1 ∷ []) 3 0 0)) → ⊥)
+    × (HaveSameShape (Blocked (made_of (1 ∷ []) 2 0 0)) (Blocked (made_of (1 ∷ 0 ∷ []) 2 0 0)) → ⊥)
+same-shape = (
+  record { words = refl; hashes = refl },
+  λ same. let wrong : 2 ≡ 3 = same.hashes in omega (arith, wrong),
+  λ same. let wrong : 1 ≡ 2 = same.words in omega (arith, wrong),
+)
 
--- there was no memory for a text that is read
-text-memory : IsReportedOfText kind.OutOfMemory (codes "a") Memory
-text-memory = record {
-  none = λ is. cc;
-  other = λ no. record { memory = λ is. tt; other = λ other. absurd (other refl) };
-}
-
-module _ (said : Error) where
-  -- a text that isn't UTF-8 holds no filter
-  text-none : HasMessage (Some (codes "a: it holds no filter")) said
-      → IsReportedOfText kind.InvalidData (codes "a") (Bad said)
-  text-none says = record { none = λ is. says; other = λ no. absurd (no refl) }
-
-  -- a broken pipe isn't said to be no filter
-  text-not-none : IsReportedOfText kind.BrokenPipe (codes "a") (Bad said) → ⊥
-  text-not-none told = (told.other (λ is. cc)).other (λ is. cc)
-
-  -- a broken pipe is reported by its input
-  kind-said : SaysOver (codes "k: it can't be read") said
-      → IsUnreadAs kind.BrokenPipe (codes "k") (Input said)
-  kind-said says = record { memory = λ is. cc; other = λ no. says }
-
-  -- memory isn't reported as a failed read
-  kind-input : IsUnreadAs kind.OutOfMemory (codes "k") (Input said) → ⊥
-  kind-input told = told.memory refl
-
-  -- a failed read isn't reported as a bad input
-  kind-bad : IsUnreadAs kind.BrokenPipe (codes "k") (Bad said) → ⊥
-  kind-bad told = told.other (λ is. cc)
-
-  -- a file that is cut holds no filter
-  reported-cut : HasMessage (Some (codes "a: it holds no filter")) said
-      → IsReportedOf (codes "a") file_error.Cut (Bad said)
-  reported-cut says = says
-
-  -- it isn't a failed read, and neither is a wrong seal
-  reported-cut_input : IsReportedOf (codes "a") file_error.Cut (Input said) → ⊥
-  reported-cut_input told = told
-
-  reported-seal_input : IsReportedOf (codes "a") file_error.Seal (Input said) → ⊥
-  reported-seal_input told = told
-
-  -- no memory isn't reported as no filter
-  reported-memory : IsReportedOf (codes "a") file_error.Memory (Bad said) → ⊥
-  reported-memory told = told
-
-  -- a filter that can't be written isn't reported as keys, nor as a failed read
-  unput-keys : error_message said ≡ codes "the keys can't be written" → IsUnput (Output said) → ⊥
-  unput-keys told (inl memory) = memory
-  unput-keys told (inr over) =
-      says-other (codes "the keys can't be written") (codes "the filter can't be written") said
-      told (λ same. byte-4 (ap (λ t. get_or t 4 0) same)) whole over.0
-    where
-      byte-4 : ◌≡◌ {A = ℕ} 107 102 → ⊥
-      byte-4 is = absurd (omega (arith, is))
-
-      whole : EndsInDots 120 (codes "the keys can't be written") → ⊥
-      whole ends =
-          let byte : ◌≡◌ {A = ℕ} 116 46 = ap (λ t. get_or t 0 0) ends in
-          absurd (omega (arith, byte))
-
-  unput-read : IsUnput (Input said) → ⊥
-  unput-read (inl memory) = memory
-  unput-read (inr over) = over
+-- the bits of both are set in the union, which neither the first alone is nor a filter of another
+-- kind
+unites : UnitesParts (Blocked (line 1)) (Blocked (line 2)) (Blocked (line 3))
+    × (UnitesParts (Blocked (line 1)) (Blocked (line 2)) (Blocked (line 1)) → ⊥)
+    × (UnitesParts (Blocked (line 1)) (Blocked (line 2)) (Classic (line 3)) → ⊥)
+unfolding content
+unites = (
+  record {
+    kind = refl;
+    parts = record {
+      bits = content-case (line 3).words
+          (λ p. content (line 1).words p || content (line 2).words p) refl
+          (λ p past. ap (λ b. b || content (line 2).words p) (content-past (line 1).words p past)
+          ∙ content-past (line 2).words p past);
+      shape = record { words = refl; hashes = refl };
+      hasher = refl;
+    };
+  },
+  λ did. let wrong : false ≡ true = did.parts.bits 193 in cc,
+  λ did. let wrong : Lines ≡ Whole = did.kind in cc,
+)

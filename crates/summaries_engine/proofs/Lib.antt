@@ -1,13 +1,13 @@
-mod AnswerFacts
 mod AskingLemmas
 mod BatchLemmas
-mod BlockedFacts
 mod BothLemmas
+mod Cases
 mod ComparingFacts
 mod ComparingLemmas
 mod CrewLemmas
 mod EmptyLemmas
 mod FilledLemmas
+mod FillerFacts
 mod FillerLemmas
 mod InputFacts
 mod InputLemmas
@@ -22,9 +22,7 @@ mod NamedLemmas
 mod NamingLemmas
 mod RefusalFacts
 mod RefusalLemmas
-mod ScriptFacts
 mod SealLemmas
-mod ShardFacts
 mod ShardLemmas
 mod SizeFacts
 mod StopFacts
@@ -33,10 +31,7 @@ mod SummaryFacts
 mod TextFacts
 mod TreeFacts
 mod TreeLemmas
-mod UnionFacts
 mod UnionLemmas
-mod UnitingFacts
 mod UnitingLemmas
 mod UnloadedLemmas
 mod WaitingKeyLemmas
-mod WritingFacts

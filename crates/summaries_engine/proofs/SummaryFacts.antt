@@ -1,155 +1,144 @@
--- Summaries of keys, at values from outside. Among 64 bits and with two hashes key "a"
--- (byte 97) has the positions 16 and 28, and "b" 34 and 48. The hashes were made by another
--- program.
-use Rattle.std.proofs.Common.{◌≡◌, ℕ, true, false, ◌||◌, List, [], ◌∷◌, length, map, refl, sym, ap, ◌∙◌, lit<, lit≤, arith}
+-- What filters are to keys, and united filters to the keys of all: cases that hold, and the nearest
+-- that don't.
+use Rattle.std.proofs.Common.{◌≡◌, ◌⊎◌, inl, inr, ℕ, true, false, ◌||◌, List, [], ◌∷◌, map, refl, sym, subst, ap, ◌∙◌, lit<, arith}
+use Rattle.std.specs.List.{Contains}
+use Rattle.std.specs.Prelude.{Ok, Err, Result}
+use Rattle.std.proofs.lemmas.Grind.{common_steps}
 use Rattle.bloom_parts.specs.Chain.{chain}
-use Rattle.bloom_parts.specs.Content.{content}
-use Rattle.bloom_parts.specs.Keys.{key_of}
+use Rattle.bloom_parts.specs.Content.{content, AreWords}
 use Rattle.bloom_parts.specs.Places.{positions}
 use Rattle.bloom_parts.specs.Sip.{sip, start, round, absorb, answer, whole_words, rest}
-use Rattle.bloom_plain.proofs.CaseLemmas.{content-case, positions-past}
 use Rattle.fastbloom.specs.Data.{DefaultFilter}
 use Rattle.fastbloom.specs.Fill.{positions_of_all}
-use Rattle.fastbloom.specs.declared.parallel.shape.Shape.{Shape}
-use Rattle.summaries_engine.specs.declared.kinds.AnyFilter.TheVariants.{Classic}
-use Rattle.summaries_engine.specs.Summaries.{AreSummariesOf, HaveSameKey, IsSummaryOf, hash_in, joined}
+use Rattle.fastbloom.specs.Filter.{contains}
+use Rattle.fastbloom.specs.Lines.{LineRangeLaw}
+use Rattle.summaries_engine.specs.declared.kinds.AnyFilter.{AnyFilter}
+use Rattle.summaries_engine.specs.declared.kinds.AnyFilter.TheVariants.{Classic, Blocked}
+use Rattle.summaries_engine.specs.Summaries.{HaveSameKey, HaveSameKeys, IsSummaryOf, UnitesGiven, UnitesShards, hash_in}
+use Rattle.summaries_engine.proofs.Cases.{filter, hash-a, key_a, key_b, line, line_shape, made_of, of_a, of_b, of_both, shape, summary-a, summary-b, summary-line}
 
--- one word and two hashes
-abbrev pub shape : Shape
-shape = record {
-  num_words = 1;
-  num_hashes = 2;
-  is_shape = record {
-    some_words = lit≤ tt;
-    few_words = lit< tt;
-    some_hashes = lit≤ tt;
-    few_hashes = lit< tt;
-  };
-}
-
--- a filter of this word and two hashes, whose key's first word is this and whose second is zero
-pub record IsFilter (f : DefaultFilter) (word low : ℕ) : Type 0 where
-  pub words : f.words ≡ word ∷ []
-  pub hashes : f.hashes ≡ 2
-  pub key : key_of f.hasher ≡ (low, 0)
-
--- the hash of "a"
-pub hash-a : sip 0 0 (97 ∷ []) ≡ 0x4074_48d2_b89b_1813
+-- the hash of "a" is that under both words of a filter's key
+hash-own : (hash_in of_a key_a ≡ 0x4074_48d2_b89b_1813)
+    × (hash_in (Blocked (made_of [] 2 1 0)) key_a ≡ 0x4f42_5c98_590c_1157)
+    × (hash_in (Blocked (made_of [] 2 1 2)) key_a ≡ 0x2437_2da9_509d_c584)
 unfolding sip start round absorb answer whole_words rest
-hash-a = refl
+hash-own = (refl, refl, refl)
 
--- the hash of "b"
-pub hash-b : sip 0 0 (98 ∷ []) ≡ 0x8b22_cf26_02fb_60ce
-unfolding sip start round absorb answer whole_words rest
-hash-b = refl
-
--- the hash of "a" under another key
-hash-a_keyed : sip 1 0 (97 ∷ []) ≡ 0x4f42_5c98_590c_1157
-unfolding sip start round absorb answer whole_words rest
-hash-a_keyed = refl
-
--- the positions of "a" alone
-bits-a : (p : ℕ)
-    → content (268500992 ∷ []) p ≡ positions_of_all 64 2 (0x4074_48d2_b89b_1813 ∷ []) p
+-- the bits of "a" are a summary in either kind. One bit fewer isn't, nor are the bits of "b"
+-- besides, a word or a hash more, another key, or the bits of the other kind
+summary : LineRangeLaw
+    → IsSummaryOf shape (key_a ∷ []) of_a
+    × IsSummaryOf line_shape (key_a ∷ []) (Blocked (line 268435968))
+    × (IsSummaryOf shape (key_a ∷ []) (Classic (filter 65536)) → ⊥)
+    × (IsSummaryOf shape (key_a ∷ []) of_both → ⊥)
+    × (IsSummaryOf shape (key_a ∷ []) (Classic (made_of (268500992 ∷ 0 ∷ []) 2 0 0)) → ⊥)
+    × (IsSummaryOf shape (key_a ∷ []) (Classic (made_of (268500992 ∷ []) 3 0 0)) → ⊥)
+    × (IsSummaryOf shape (key_a ∷ []) (Classic (made_of (268500992 ∷ []) 2 1 0)) → ⊥)
+    × (IsSummaryOf line_shape (key_a ∷ []) (Classic (line 268435968)) → ⊥)
 unfolding content positions chain
-bits-a = content-case (268500992 ∷ []) (positions_of_all 64 2 (0x4074_48d2_b89b_1813 ∷ [])) refl
-    (λ p past. ap (λ b. b || false)
-    (positions-past 64 2 0x4074_48d2_b89b_1813 p (lit< tt) (lit< tt) past))
+summary range = (
+  summary-a,
+  summary-line range,
+  λ did. let wrong : false ≡ true =
+      did.bits 28 ∙ ap (λ h. positions_of_all 64 2 (h ∷ []) 28) hash-a in cc,
+  λ did. let wrong : true ≡ false =
+      did.bits 34 ∙ ap (λ h. positions_of_all 64 2 (h ∷ []) 34) hash-a in cc,
+  λ did. let wrong : 2 ≡ 1 = did.words in omega (arith, wrong),
+  λ did. let wrong : 3 ≡ 2 = did.num_hashes in omega (arith, wrong),
+  λ did. let wrong : true ≡ false =
+      did.bits 16 ∙ ap (λ h. positions_of_all 64 2 (h ∷ []) 16) hash-a_keyed in cc,
+  λ did. let wrong : false ≡ true =
+      did.bits 128 ∙ ap (λ h. positions_of_all 512 2 (h ∷ []) 128) hash-a in cc,
+)
+  where
+    hash-a_keyed : sip 1 0 key_a ≡ 0x4f42_5c98_590c_1157
+    hash-a_keyed = hash-own.1
 
--- the positions of "b" alone
-bits-b : (p : ℕ)
-    → content (281492156579840 ∷ []) p ≡ positions_of_all 64 2 (0x8b22_cf26_02fb_60ce ∷ []) p
-unfolding content positions chain
-bits-b = content-case (281492156579840 ∷ [])
-    (positions_of_all 64 2 (0x8b22_cf26_02fb_60ce ∷ [])) refl
-    (λ p past. ap (λ b. b || false)
-    (positions-past 64 2 0x8b22_cf26_02fb_60ce p (lit< tt) (lit< tt) past))
+-- neither order nor number makes keys differ, and a key more or less does
+same-keys : HaveSameKeys (key_a ∷ key_b ∷ key_a ∷ []) (key_b ∷ key_a ∷ [])
+    × (HaveSameKeys (key_a ∷ key_b ∷ []) (key_a ∷ []) → ⊥)
+    × (HaveSameKeys (key_a ∷ []) (key_a ∷ key_b ∷ []) → ⊥)
+same-keys = (
+  λ key. (
+    λ w. elim (of-three key w) [
+      | inl one ↦ (1, lit< tt, sym one)
+      | inr other ↦ (0, lit< tt, sym other)
+    ],
+    λ w. elim (of-two key w) [
+      | inl other ↦ (1, lit< tt, sym other)
+      | inr one ↦ (0, lit< tt, sym one)
+    ],
+  ),
+  λ same. no-b ((same key_b).0 (1, lit< tt, refl)),
+  λ same. no-b ((same key_b).1 (1, lit< tt, refl)),
+)
+  where
+    of-three : (key : List ℕ) → Contains (key_a ∷ key_b ∷ key_a ∷ []) key
+        → (key ≡ 97 ∷ []) ⊎ (key ≡ 98 ∷ [])
+    of-three key w = grind (arith, common_steps, w.1, w.2)
 
--- a filter's hash of a key is that under its own key
-pub hash-in : (f : DefaultFilter) (word low : ℕ) (key : List ℕ) → IsFilter f word low
-    → hash_in (Classic f) key ≡ sip low 0 key
-hash-in f word low key is = ap (λ pair. sip pair.0 pair.1 key) is.key
+    of-two : (key : List ℕ) → Contains (key_b ∷ key_a ∷ []) key
+        → (key ≡ 98 ∷ []) ⊎ (key ≡ 97 ∷ [])
+    of-two key w = grind (arith, common_steps, w.1, w.2)
 
--- the summary of "a"
-pub summary-a : (f : DefaultFilter) → IsFilter f 268500992 0
-    → IsSummaryOf shape ((97 ∷ []) ∷ []) (Classic f)
-summary-a f is = record {
-  words = ap length is.words;
-  num_hashes = is.hashes;
-  bits = λ p. ap (λ w. content w p) is.words ∙ bits-a p
-      ∙ ap (λ h. positions_of_all 64 2 (h ∷ []) p)
-      (sym (hash-in f 268500992 0 (97 ∷ []) is ∙ hash-a));
-}
+    no-b : Contains (key_a ∷ []) key_b → ⊥
+    no-b there = grind (arith, common_steps, there.1, there.2)
 
--- the summary of "b"
-pub summary-b : (f : DefaultFilter) → IsFilter f 281492156579840 0
-    → IsSummaryOf shape ((98 ∷ []) ∷ []) (Classic f)
-summary-b f is = record {
-  words = ap length is.words;
-  num_hashes = is.hashes;
-  bits = λ p. ap (λ w. content w p) is.words ∙ bits-b p
-      ∙ ap (λ h. positions_of_all 64 2 (h ∷ []) p)
-      (sym (hash-in f 281492156579840 0 (98 ∷ []) is ∙ hash-b));
-}
+-- keys are the same in filters of either kind, and differ where one word of them does
+same-key : HaveSameKey (Classic (made_of [] 2 1 2)) (Blocked (made_of [] 3 1 2))
+    × (HaveSameKey (Classic (made_of [] 2 1 2)) (Classic (made_of [] 2 1 3)) → ⊥)
+    × (HaveSameKey (Classic (made_of [] 2 1 2)) (Classic (made_of [] 2 0 2)) → ⊥)
+same-key = (
+  refl,
+  λ same. let wrong : 2 ≡ 3 = ap (λ pair. pair.1) same in omega (arith, wrong),
+  λ same. let wrong : 1 ≡ 0 = ap (λ pair. pair.0) same in omega (arith, wrong),
+)
 
--- a bit of the word is set where the summary of these keys has it
-pub at : (f : DefaultFilter) (word low : ℕ) (keys : List (List ℕ)) (p : ℕ) → IsFilter f word low
-    → IsSummaryOf shape keys (Classic f)
-    → content (word ∷ []) p ≡ positions_of_all 64 2 (map (λ key. sip low 0 key) keys) p
-at f word low keys p is did =
-    ap (λ w. content w p) (sym is.words) ∙ did.bits p
-    ∙ ap (λ pair. positions_of_all 64 2 (map (λ key. sip pair.0 pair.1 key) keys) p) is.key
+-- what two shards are united to has the bits of both and no others, is the summary of both keys,
+-- equals each filter of both, and contains the second's; the filter of "a" isn't it
+shards : ((made : DefaultFilter) → UnitesShards (of_a ∷ of_b ∷ []) (Classic made)
+    → ((p : ℕ) → content made.words p
+    ≡ (content (268500992 ∷ []) p || (content (281492156579840 ∷ []) p || false)))
+    × IsSummaryOf shape (key_a ∷ key_b ∷ []) (Classic made)
+    × ((whole : DefaultFilter) → IsSummaryOf shape (key_b ∷ key_a ∷ []) (Classic whole)
+    → AreWords whole.words → HaveSameKey (Classic whole) (Classic made)
+    → HaveSameKeys (key_a ∷ key_b ∷ []) (key_b ∷ key_a ∷ [])
+    → (made.words ≡ whole.words) × (made.hashes ≡ whole.hashes))
+    × (contains made (hash_in (Classic made) key_b) ≡ true))
+    × (UnitesShards (of_a ∷ of_b ∷ []) of_a → ⊥)
+unfolding content
+shards = (
+  λ made unites. (
+    unites.union.bits,
+    unites.summary shape ((key_a ∷ []) ∷ (key_b ∷ []) ∷ []) (summary-a, (summary-b, tt)),
+    λ whole is words key same.
+        unites.same shape ((key_a ∷ []) ∷ (key_b ∷ []) ∷ []) (key_b ∷ key_a ∷ []) (Classic whole)
+        (summary-a, (summary-b, tt)) is words refl key same,
+    unites.found shape ((key_a ∷ []) ∷ (key_b ∷ []) ∷ []) key_b (summary-a, (summary-b, tt))
+        (1, lit< tt, refl),
+  ),
+  λ unites. let wrong : false ≡ true = unites.union.bits 34 in cc,
+)
 
--- the summary of "a" isn't that of "b"
-summary-other : (f : DefaultFilter) → IsFilter f 268500992 0
-    → IsSummaryOf shape ((98 ∷ []) ∷ []) (Classic f) → ⊥
-unfolding content positions chain
-summary-other f is did =
-    let wrong : true ≡ false =
-    at f 268500992 0 ((98 ∷ []) ∷ []) 16 is did
-    ∙ ap (λ h. positions_of_all 64 2 (h ∷ []) 16) hash-b in cc
+-- what was given is united with the first, and an error isn't
+given : ((made : AnyFilter) → UnitesGiven {E = ℕ} of_a (Ok of_b ∷ []) made
+    → UnitesShards (of_a ∷ of_b ∷ []) made)
+    × ((made : AnyFilter) → UnitesGiven {E = ℕ} of_a (Err 4 ∷ []) made → ⊥)
+given = (
+  λ made did. of made did.others did.all_read did.unites,
+  λ made did. none did.others did.all_read,
+)
+  where
+    of : (made : AnyFilter) (others : List AnyFilter)
+        → ◌≡◌ {A = List (Result AnyFilter ℕ)} (Ok of_b ∷ []) (map Ok others)
+        → UnitesShards (of_a ∷ others) made → UnitesShards (of_a ∷ of_b ∷ []) made
+    of made [] is unites = cc (is)
+    of made (f ∷ []) is unites =
+        let same : ◌≡◌ {A = AnyFilter} f of_b = cc (is) in
+        subst (λ g. UnitesShards (of_a ∷ g ∷ []) made) same unites
+    of made (f ∷ g ∷ others) is unites = cc (is)
 
--- the same word under another key isn't the summary of "a"
-summary-keyed : (f : DefaultFilter) → IsFilter f 268500992 1
-    → IsSummaryOf shape ((97 ∷ []) ∷ []) (Classic f) → ⊥
-unfolding content positions chain
-summary-keyed f is did =
-    let wrong : true ≡ false =
-    at f 268500992 1 ((97 ∷ []) ∷ []) 16 is did
-    ∙ ap (λ h. positions_of_all 64 2 (h ∷ []) 16) hash-a_keyed in cc
-
--- two filters are the summaries of two parts
-pub each-part : (f g : DefaultFilter) → IsFilter f 268500992 0 → IsFilter g 281492156579840 0
-    → AreSummariesOf shape (((97 ∷ []) ∷ []) ∷ ((98 ∷ []) ∷ []) ∷ []) (Classic f ∷ Classic g ∷ [])
-each-part f g one other = (summary-a f one, (summary-b g other, tt))
-
--- two filters aren't the summaries of one part
-part-left_out : (f g : DefaultFilter)
-    → AreSummariesOf shape (((97 ∷ []) ∷ []) ∷ []) (Classic f ∷ Classic g ∷ []) → ⊥
-part-left_out f g each = each.1
-
--- a part of which there is no filter isn't left out
-filter-left_out : (f : DefaultFilter)
-    → AreSummariesOf shape (((97 ∷ []) ∷ []) ∷ ((98 ∷ []) ∷ []) ∷ []) (Classic f ∷ []) → ⊥
-filter-left_out f each = each.1
-
--- the first filter is the summary of the first part
-part-other : (f : DefaultFilter) → IsFilter f 268500992 0
-    → AreSummariesOf shape (((98 ∷ []) ∷ []) ∷ []) (Classic f ∷ []) → ⊥
-part-other f is each = summary-other f is each.0
-
--- both words of a filter's key are the key of the hash
-hash-both : (f : DefaultFilter) (low high : ℕ) (key : List ℕ) → key_of f.hasher ≡ (low, high)
-    → hash_in (Classic f) key ≡ sip low high key
-hash-both f low high key is = ap (λ pair. sip pair.0 pair.1 key) is
-
--- the keys of two parts, of which the second has two
-joined-parts : joined (((1 ∷ []) ∷ []) ∷ ((2 ∷ []) ∷ (3 ∷ []) ∷ []) ∷ [])
-    ≡ (1 ∷ []) ∷ (2 ∷ []) ∷ (3 ∷ []) ∷ []
-joined-parts = refl
-
--- keys that differ in their second word alone aren't the same
-key-second : (f g : DefaultFilter) → key_of f.hasher ≡ (1, 2) → key_of g.hasher ≡ (1, 3)
-    → HaveSameKey (Classic f) (Classic g) → ⊥
-key-second f g one other same =
-    let wrong : 2 ≡ 3 = ap (λ pair. pair.1) (sym one ∙ same ∙ other) in omega (arith, wrong)
+    none : (others : List AnyFilter)
+        → ◌≡◌ {A = List (Result AnyFilter ℕ)} (Err 4 ∷ []) (map Ok others) → ⊥
+    none [] is = cc (is)
+    none (f ∷ others) is = cc (is)

@@ -1,6 +1,8 @@
 -- What a tree of unions makes, by the laws of filled filters.
-use Rattle.std.proofs.Common.{◌≡◌, ℕ, List, map, sym, subst, ◌∙◌, ap}
+use Rattle.std.proofs.Common.{◌≡◌, ℕ, true, List, map, sym, subst, ◌∙◌, ap}
+use Rattle.std.specs.List.{Contains}
 use Rattle.std.proofs.lemmas.List.{map-append}
+use Rattle.bloom_parts.specs.Content.{AreWords}
 use Rattle.bloom_parts.specs.Keys.{key_of}
 use Rattle.bloom_parts.specs.Sip.{sip}
 use Rattle.fastbloom.specs.Fill.{AnyCuttingLaw, FilledContainsLaw}
@@ -8,9 +10,9 @@ use Rattle.fastbloom.specs.Laws.{EqualContentLaw, EqualityLaw}
 use Rattle.fastbloom.specs.Lines.{LineSubsetLaw}
 use Rattle.fastbloom.specs.declared.parallel.shape.Shape.{Shape}
 use Rattle.summaries_engine.specs.declared.kinds.AnyFilter.{AnyFilter}
-use Rattle.summaries_engine.specs.Kinds.{parts_of}
-use Rattle.summaries_engine.specs.Summaries.{hash_in, IsFilled, IsSummaryOf}
-use Rattle.summaries_engine.specs.Trees.{Part, United, keys_of, TreeSummaryLaw, AnyPartsLaw, AnyPartFoundLaw}
+use Rattle.summaries_engine.specs.Kinds.{HaveSameKind, has_hash, parts_of}
+use Rattle.summaries_engine.specs.Summaries.{HaveSameKey, HaveSameKeys, IsFilled, IsSummaryOf, hash_in}
+use Rattle.summaries_engine.specs.Trees.{Tree, Part, United, Makes, keys_of}
 use Rattle.summaries_engine.proofs.FilledLemmas.{Builder, filled-alike, filled-contains, filled-union}
 use Rattle.summaries_engine.proofs.ShardLemmas.{hash-of-key, hashes-same}
 
@@ -22,7 +24,8 @@ filled-under shape keys f made same filled =
     subst (λ pair. IsFilled shape (map (sip pair.0 pair.1) keys) f) same filled
 
 -- a union of two summaries is the summary of the keys of both
-pub tree_summary_law : TreeSummaryLaw
+pub tree_summary_law : (shape : Shape) (tree : Tree) (made : AnyFilter)
+    → Makes shape tree made → IsSummaryOf shape (keys_of tree) made
 tree_summary_law shape (Part keys) made did = did
 tree_summary_law shape (United one other) made (f, g, of_one, of_other, kind, same, united) =
     let key : key_of (parts_of f).hasher ≡ key_of (parts_of made).hasher =
@@ -37,7 +40,12 @@ tree_summary_law shape (United one other) made (f, g, of_one, of_other, kind, sa
 
 -- filters that are filled with the same hashes are equal
 pub any_parts_law : EqualityLaw Builder → EqualContentLaw Builder → AnyCuttingLaw Builder
-    → AnyPartsLaw
+    → (shape : Shape) (tree : Tree) (keys : List (List ℕ)) (made whole : AnyFilter)
+    → Makes shape tree made → IsSummaryOf shape keys whole
+    → AreWords (parts_of made).words → AreWords (parts_of whole).words
+    → HaveSameKind whole made → HaveSameKey whole made → HaveSameKeys (keys_of tree) keys
+    → ((parts_of made).words ≡ (parts_of whole).words)
+    × ((parts_of made).hashes ≡ (parts_of whole).hashes)
 any_parts_law equality contents cutting shape tree keys made whole did filled words fit kind key
     same =
     let hash = hash_in made in
@@ -46,7 +54,10 @@ any_parts_law equality contents cutting shape tree keys made whole did filled wo
     (filled-under shape keys whole made key filled) (hashes-same hash (keys_of tree) keys same)
 
 -- a filter that is filled with hashes contains them
-pub any_part_found_law : FilledContainsLaw Builder → LineSubsetLaw → AnyPartFoundLaw
+pub any_part_found_law : FilledContainsLaw Builder → LineSubsetLaw
+    → (shape : Shape) (tree : Tree) (made : AnyFilter) (key : List ℕ)
+    → Makes shape tree made → Contains (keys_of tree) key
+    → has_hash made (hash_in made key) ≡ true
 any_part_found_law contains_all subset shape tree made key did given =
     filled-contains contains_all subset shape made (map (hash_in made) (keys_of tree))
     (hash_in made key) (tree_summary_law shape tree made did)

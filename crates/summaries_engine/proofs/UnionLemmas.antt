@@ -13,8 +13,8 @@ use Rattle.fastbloom.specs.declared.parallel.shape.Shape.{Shape}
 use Rattle.summaries_engine.specs.declared.kinds.AnyFilter.{AnyFilter}
 use Rattle.summaries_engine.specs.Kinds.{HaveSameKind, HaveSameShape, UnitesParts, layout_of, parts_of}
 use Rattle.summaries_engine.specs.Refusals.{Fits}
-use Rattle.summaries_engine.specs.Summaries.{hash_in, IsSummaryOf, AreSummariesOf, joined, HaveSameKey, IsUnionOf}
-use Rattle.summaries_engine.proofs.FilledLemmas.{filled-from, filled-is, positions-append, positions-none, positions_in}
+use Rattle.summaries_engine.specs.Summaries.{AreSummariesOf, HaveSameKey, IsSummaryOf, IsUnionOf, hash_in, joined, positions_in}
+use Rattle.summaries_engine.proofs.FilledLemmas.{positions-append, positions-none}
 
 -- a filter is the union of itself
 pub union-first : (f : AnyFilter) → IsUnionOf (f ∷ []) f
@@ -74,12 +74,11 @@ module _ (shape : Shape) (made : AnyFilter) where
   on-joined (keys ∷ parts) (f ∷ filters) each kind same p =
       let hashes = map (hash_in made) keys in
       let later = map (hash_in made) (joined parts) in
-      let filled = filled-is shape (map (hash_in f) keys) f each.0 in
       let alike : layout_of f ≡ layout_of made =
       sym (All-head (HaveSameKind made) f filters kind) in
       let key : key_of (parts_of f).hasher ≡ key_of (parts_of made).hasher =
       sym (All-head (HaveSameKey made) f filters same) in
-      ap (λ b. b || list_any (λ g. content (parts_of g).words p) filters) (filled.bits p
+      ap (λ b. b || list_any (λ g. content (parts_of g).words p) filters) (each.0.bits p
       ∙ ap (λ layout. positions_in layout shape (map (hash_in f) keys) p) alike
       ∙ ap (λ pair. positions_in (layout_of made) shape (map (sip pair.0 pair.1) keys) p) key)
       ∙ ap (λ b. on_of keys p || b)
@@ -95,11 +94,9 @@ module _ (shape : Shape) (made : AnyFilter) where
       → IsUnionOf (first ∷ others) made → IsSummaryOf shape (joined parts) made
   summary-joined first others [] each union = absurd each
   summary-joined first others (keys ∷ parts) each union =
-      let has = All-head (HaveSameShape made) first others union.shape in
-      let filled = filled-is shape (map (hash_in first) keys) first each.0 in
-      filled-from shape (map (hash_in made) (joined (keys ∷ parts))) made (record {
-        words = has.words ∙ filled.words;
-        num_hashes = has.hashes ∙ filled.num_hashes;
+      let has = All-head (HaveSameShape made) first others union.shape in record {
+        words = has.words ∙ each.0.words;
+        num_hashes = has.hashes ∙ each.0.num_hashes;
         bits = λ p. union.bits p
             ∙ on-joined (keys ∷ parts) (first ∷ others) each union.kind union.key p;
-      })
+      }

@@ -1,34 +1,36 @@
 -- What a filter is to keys, and united filters to the keys of all. A key is a list of bytes, whose
 -- hash is SipHash-1-3 under the filter's own key. That is this project's own.
-use Rattle.std.specs.Prelude.{◌≡◌, ◌↔◌, ℕ, ◌/◌, true, List, [], ◌∷◌, length, map, flat_map, All, Ok, Result, ⊤}
+use Rattle.std.specs.Prelude.{◌≡◌, ◌↔◌, ℕ, ◌*◌, ◌/◌, Bool, true, List, [], ◌∷◌, length, map, flat_map, All, Ok, Result, ⊤}
 use Rattle.std.specs.List.{list_any, Contains}
 use Rattle.bloom_parts.specs.Content.{content, AreWords}
 use Rattle.bloom_parts.specs.Keys.{key_of}
 use Rattle.bloom_parts.specs.Sip.{sip}
-use Rattle.fastbloom.specs.Data.{DefaultFilter}
-use Rattle.fastbloom.specs.Fill.{IsFilledWith, hashes_of, words_of}
+use Rattle.bloom_files.specs.declared.layout.Layout.{Layout}
+use Rattle.bloom_files.specs.declared.layout.Layout.TheVariants.{Whole, Lines}
+use Rattle.fastbloom.specs.Fill.{hashes_of, positions_of_all, words_of}
 use Rattle.fastbloom.specs.Many.{positions_in_lines}
 use Rattle.fastbloom.specs.declared.parallel.shape.Shape.{Shape}
 use Rattle.summaries_engine.specs.declared.kinds.AnyFilter.{AnyFilter}
-use Rattle.summaries_engine.specs.declared.kinds.AnyFilter.TheVariants.{Classic, Blocked}
-use Rattle.summaries_engine.specs.Kinds.{HaveSameKind, HaveSameShape, has_hash, parts_of}
+use Rattle.summaries_engine.specs.Kinds.{HaveSameKind, HaveSameShape, has_hash, layout_of, parts_of}
 
 -- the hash of a key's bytes in a filter
 abbrev pub hash_in : AnyFilter → List ℕ → ℕ
 hash_in f key = sip (key_of (parts_of f).hasher).0 (key_of (parts_of f).hasher).1 key
 
--- a blocked filter has this shape, of which each eight words are a line, and exactly the positions
--- of these hashes are set
-pub record IsFilledInLines (shape : Shape) (hashes : List ℕ) (f : DefaultFilter) : Type 0 where
-  pub words : length f.words ≡ words_of shape
-  pub num_hashes : f.hashes ≡ hashes_of shape
-  pub bits : (p : ℕ) → content f.words p
-      ≡ positions_in_lines (words_of shape / 8) (hashes_of shape) hashes p
+-- the positions of hashes in a filter of this layout and shape: anywhere in it, or in lines, each
+-- of eight words
+abbrev pub positions_in : Layout → Shape → List ℕ → ℕ → Bool
+positions_in Whole shape hashes p =
+    positions_of_all (64 * words_of shape) (hashes_of shape) hashes p
+positions_in Lines shape hashes p =
+    positions_in_lines (words_of shape / 8) (hashes_of shape) hashes p
 
--- a filter has this shape, and exactly the positions that these hashes have in its kind are set
-abbrev pub IsFilled : Shape → List ℕ → AnyFilter → Type 0
-IsFilled shape hashes (Classic f) = IsFilledWith shape hashes f
-IsFilled shape hashes (Blocked f) = IsFilledInLines shape hashes f
+-- a filter has this shape, and exactly the positions of these hashes are set
+pub record IsFilled (shape : Shape) (hashes : List ℕ) (f : AnyFilter) : Type 0 where
+  pub words : length (parts_of f).words ≡ words_of shape
+  pub num_hashes : (parts_of f).hashes ≡ hashes_of shape
+  pub bits : (p : ℕ) → content (parts_of f).words p
+      ≡ positions_in (layout_of f) shape hashes p
 
 -- exactly the bits of these keys are set in a filter of this shape
 abbrev pub IsSummaryOf : Shape → List (List ℕ) → AnyFilter → Type 0

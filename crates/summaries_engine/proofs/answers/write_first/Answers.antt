@@ -1,4 +1,4 @@
-use Rattle.std.proofs.Common.{◌≡◌, Err, ap, arith, rules, ◌∙◌}
+use Rattle.std.proofs.Common.{◌≡◌, Err, arith, rules, ◌∙◌}
 use Rattle.summaries_engine.proofs.BatchLemmas.{answers-cut, answers-more, answers-none, found-is}
 use Rattle.summaries_engine.proofs.answers.write_first.Goals as goal
 
