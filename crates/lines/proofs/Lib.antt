@@ -10,4 +10,6 @@ mod RoomLemmas
 pub mod TakenLemmas
 mod TakingFacts
 mod WritingFacts
+mod WholeFacts
+pub mod WholeLemmas
 pub mod WritingLemmas
