@@ -1,3 +1,4 @@
+mod AheadLemmas
 mod AlwaysLemmas
 mod BlockedFacts
 mod CauseFacts
