@@ -76,11 +76,10 @@ module _ (had has : List ℕ → ℕ → Type 0) (end longest : ℕ)
       → IfSome next (λ l. T l × CutsLineBy end longest bytes rest line l.length)
       → AreLookedAt has end longest rest later
   looked-next T None bytes rest line later found cut = looked-none has end longest rest later found
-  looked-next T (Some l) bytes rest line later found cut = (
-    found.0,
-    keeps-each rest found.0 later
-        (subst (λ b. AreLookedAtUpTo had end longest b found.0 later) (sym cut.1.is_rest) found.1.1),
-  )
+  looked-next T (Some l) bytes rest line later found cut =
+      let behind : AreLookedAtUpTo had end longest rest found.0 later =
+      subst (λ b. AreLookedAtUpTo had end longest b found.0 later) (sym cut.1.is_rest) found.1.1 in
+      (found.0, keeps-each rest found.0 later behind)
 
 -- the bytes behind the end of a line
 pub behind-end : (n : ℕ) (bytes others : List ℕ) → others ≡ drop n bytes
