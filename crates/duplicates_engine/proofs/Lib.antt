@@ -11,6 +11,7 @@ mod FaultFacts
 mod FlushLemmas
 mod GrownLemmas
 mod HalfwayLemmas
+mod HashFacts
 mod InputFacts
 mod InputLemmas
 mod KeepingLemmas

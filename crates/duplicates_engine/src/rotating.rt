@@ -39,6 +39,7 @@ impl<F: GrowableFilter> Sieve for RotatingFilterOf<F> {
         self.newer().look_up(hashes, found);
     }
 
+    #[inline(always)]
     fn sift(&mut self, _alloc: Global, _line: &[u8], hash: u64) -> Result<bool, GrowingError> {
         rotating_recent_stays_found::<DefaultHasher>();
         Ok(self.insert_hash(hash))
