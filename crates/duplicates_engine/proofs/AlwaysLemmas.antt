@@ -1,5 +1,5 @@
 -- Sieves that tell of a line however many came behind it.
-use Rattle.std.proofs.Common.{◌≡◌, ◌<◌, ℕ, Bool, true, false, List, [], ◌∷◌, ◌++◌, length, None, sym, ◌∙◌, subst, length-append, arith}
+use Rattle.std.proofs.Common.{◌≡◌, ◌<◌, ℕ, Bool, true, false, List, [], ◌∷◌, ◌++◌, length, None, sym, ◌∙◌, ap, subst, length-append, arith}
 use Rattle.std.specs.Prelude.{All}
 use Rattle.std.proofs.lemmas.Bool.{true≢false}
 use Rattle.std.proofs.lemmas.List.Elements.{All-get_or, All-push, All-weaker}
@@ -23,6 +23,11 @@ pub always-more : (P Q : List ℕ → Type 0) (line : List ℕ) → Q line
     → All Q (lines ++ line ∷ [])
 always-more P Q line here stays lines had = All-push Q lines line (All-weaker P Q stays lines had)
     here
+
+-- under the same hasher a line keeps its hash
+pub keeps-hash : {S : Type 0} (hash_of : S → List ℕ → ℕ) {old new : S} → new ≡ old
+    → (line : List ℕ) (hash : ℕ) → hash ≡ hash_of old line → hash ≡ hash_of new line
+keeps-hash hash_of same line hash is = is ∙ ap (λ s. hash_of s line) (sym same)
 
 -- a sieve that has a line by its hash
 module _ {V S : Type 0} (contains : V → ℕ → Bool) (hash_of : S → List ℕ → ℕ) (hasher_of : V → S)

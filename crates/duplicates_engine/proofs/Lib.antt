@@ -1,3 +1,4 @@
+mod AheadLemmas
 mod AlwaysLemmas
 mod Cases
 mod CauseFacts
@@ -8,6 +9,7 @@ mod EndLemmas
 mod FlushLemmas
 mod GrownLemmas
 mod HalfwayLemmas
+mod HashFacts
 mod InputFacts
 mod InputLemmas
 mod KeepingLemmas

@@ -7,11 +7,12 @@ use crate::ahead::Ahead;
 use crate::counted::{Counted, count_line};
 use crate::fault::Fault;
 use crate::inputs::Inputs;
-use crate::opened::{Opened, Step, flush, next_step, open_next};
+use crate::opened::{Opened, Step, open_next};
 use crate::options::Options;
 use crate::output::put_chosen;
 use crate::progress::Progress;
 use crate::sieve::{Sieve, sift_line};
+use crate::steps::{flush, next_step};
 use crate::tally::{Tally, Total};
 use std::alloc::Global;
 use std::io::{ErrorKind, Write};
@@ -47,11 +48,11 @@ fn keep_lines<V: Sieve, I: Inputs, W: Write, P: Progress, const END: u8>(
     let mut opened = Opened::<END>::new(alloc, options)?;
     let mut ahead = Ahead::new();
     'steps: for _step in 0..u64::MAX {
-        let waits = ahead.look::<V, END>(sieve, opened.lines.waiting());
+        let looked = ahead.next::<V, END>(sieve, options.limit(), opened.lines.waiting());
         match next_step(
             alloc,
             options,
-            waits,
+            looked,
             &mut opened,
             &mut input,
             inputs,
@@ -63,7 +64,7 @@ fn keep_lines<V: Sieve, I: Inputs, W: Write, P: Progress, const END: u8>(
             Step::Line => {}
         }
         let line = opened.lines.line();
-        let is_held = sift_line(alloc, sieve, options, line)?;
+        let is_held = sift_line(alloc, sieve, options, looked, line)?;
         count_line(&mut counted, options.is_longer(line), is_held, progress);
         put_chosen::<W, END>(output, options, line, is_held)?;
     }

@@ -4,8 +4,9 @@
 //! - `sieve`: what tells of a line whether it may have come before: a filter that is plain
 //!   (`plain`), blocked (`blocked`), growing (`growing`) or rotating (`rotating`).
 //! - `options`, `output`: what a run is to do, and how it writes lines.
-//! - `ahead`: looking ahead at lines that wait, for the memory's sake.
-//! - `inputs`, `opened`: inputs, one after the other, and the one that is open.
+//! - `ahead`: looking ahead at lines that wait, for the memory's sake. Each line is hashed once.
+//! - `inputs`, `opened`: inputs, one after the other, and the one that is open; `steps` goes from
+//!   line to line and from input to input.
 //! - `tally`, `counted`, `progress`: counts of lines, and who is told of them and warned.
 //! - `fault`: why a run ends early.
 //! - `laws`: the laws of sieves.
@@ -26,6 +27,7 @@ mod plain;
 mod progress;
 mod rotating;
 mod sieve;
+mod steps;
 mod tally;
 
 pub use fault::Fault;

@@ -29,6 +29,7 @@ pub trait Progress {
 pub const STRETCH: u64 = 1_000_000;
 
 /// Tells how far a run is, where another stretch of lines is done.
+#[inline(always)]
 pub fn tell<P: Progress>(progress: &mut P, tally: Tally)
     ensures told { tally.read % 1000000 ≡ 0
         → Tells (P.tells progress.old) (P.tells progress.new) tally }
@@ -42,6 +43,7 @@ pub fn tell<P: Progress>(progress: &mut P, tally: Tally)
 
 /// Takes room for a new line. Where none is left it warns, and from then on there is no room to
 /// take.
+#[inline(always)]
 pub fn warn<P: Progress>(progress: &mut P, room: &mut Option<u64>, is_held: bool, tally: Tally)
     ensures warned { Warns room.old is_held room.new
         (P.warnings progress.old) (P.warnings progress.new) tally }

@@ -1,5 +1,6 @@
 //! A filter that rotates as a sieve, which tells of the last lines of an input without end.
 ghost use Rattle.std.specs.Prelude.{Some, refl};
+ghost use Rattle.duplicates_engine.specs.Plain.{IsLineHash};
 ghost use Rattle.duplicates_engine.specs.Rotating.{rotating_recalls, rotating_receives};
 
 use crate::sieve::Sieve;
@@ -22,6 +23,9 @@ impl<F: GrowableFilter> Sieve for RotatingFilterOf<F> {
     // No line is refused.
     ghost refuses = { λ _ _ _. ⊥ };
 
+    ghost has_hash = { λ r. IsLineHash ⟦<RandomDefaultHasher as Hasher>⟧
+        ⟦<DefaultHasher as BuildHasher>⟧.build_hasher r.plan.hasher };
+
     fn hash_of(&self, line: &[u8]) -> u64 {
         self.source_hash(&Text(line))
     }
@@ -35,9 +39,10 @@ impl<F: GrowableFilter> Sieve for RotatingFilterOf<F> {
         self.newer().look_up(hashes, found);
     }
 
-    fn sift(&mut self, _alloc: Global, line: &[u8]) -> Result<bool, GrowingError> {
+    #[inline(always)]
+    fn sift(&mut self, _alloc: Global, _line: &[u8], hash: u64) -> Result<bool, GrowingError> {
         rotating_recent_stays_found::<DefaultHasher>();
-        Ok(self.insert(&Text(line)))
+        Ok(self.insert_hash(hash))
     }
 
     ghost none = { λ r. (r, refl) };

@@ -6,4 +6,6 @@ pub mod ReadingLemmas
 mod RoomLemmas
 pub mod TakenLemmas
 mod WritingFacts
+mod WholeFacts
+pub mod WholeLemmas
 pub mod WritingLemmas

@@ -4,6 +4,12 @@ use Rattle.lines.specs.declared.piece.Piece.{Piece}
 use Rattle.lines.specs.declared.piece.Piece.TheVariants.{Ended, All, TooLong}
 use Rattle.lines.specs.Lines.{has_no_end_by}
 
+-- what contracts see of a block of bytes: the line among them that was taken last, and the bytes
+-- that wait
+pub record Held : Type 0 where
+  pub line : List ℕ
+  pub bytes : List ℕ
+
 -- a line grew by bytes that end no line, and isn't too long
 pub record Grows (end longest : ℕ) (line more part : List ℕ) : Type 0 where
   pub joined : more ≡ line ++ part

@@ -1,7 +1,7 @@
 -- What reading one line takes, and what a program read that took one line after the other. What a
 -- reader has left is Some of the bytes, or None where it doesn't tell. A name with `by` takes first
 -- the byte that ends a line; the same name without it is the case of byte 10.
-use Rattle.std.specs.Prelude.{◌≡◌, ◌⊎◌, ℕ, ◌<◌, ◌≤◌, List, [], ◌∷◌, ◌++◌, length, take, slice_index, Bool, true, not, nat_lt, ◌||◌, All, Option, Some, IfSome}
+use Rattle.std.specs.Prelude.{◌≡◌, ◌⊎◌, ℕ, ◌+◌, ◌<◌, ◌≤◌, List, [], ◌∷◌, ◌++◌, length, take, drop, slice_index, Bool, true, not, nat_lt, ◌||◌, All, Option, Some, IfSome}
 use Rattle.std.specs.Io.KnownBytes.{Consumes, IsAtEnd, prepend_known}
 use Rattle.lines.specs.declared.reader.Next.{Next}
 use Rattle.lines.specs.declared.reader.Next.TheVariants.{End, Line, TooLong}
@@ -38,6 +38,14 @@ pub record HasEndAtBy (end : ℕ) (bytes : List ℕ) (n : ℕ) : Type 0 where
   pub within : n < length bytes
   pub ended : slice_index bytes n ≡ end
   pub inside : has_no_end_by end (take n bytes) ≡ true
+
+-- the first line of these bytes, which has n bytes, was taken with its end; it isn't too long, and
+-- the rest is what stands behind its end
+pub record CutsLineBy (end longest : ℕ) (bytes rest line : List ℕ) (n : ℕ) : Type 0 where
+  pub ends : HasEndAtBy end bytes n
+  pub short : n ≤ longest
+  pub is_line : line ≡ take n bytes
+  pub is_rest : rest ≡ drop (n + 1) bytes
 
 -- from old to new one line was taken, with its end or with all that was left
 pub record TakesLineBy (end : ℕ) (old new : Option (List ℕ)) (line : List ℕ) : Type 0 where

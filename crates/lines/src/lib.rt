@@ -1,7 +1,7 @@
 //! The lines of a reader, one after the other, in constant memory; bytes, read and written whole.
 //!
-//! - `reader`: `LineReader`, which reads into a block of bytes (`block`), and moves these to a line
-//!   piece by piece (`piece`).
+//! - `reader`: `LineReader`, which reads into a block of bytes (`block`). A line that waits whole
+//!   stays there; another is joined piece by piece (`piece`).
 //! - `reads`: some bytes, or as many as there is room for.
 //! - `writer`: a line or some bytes, written as far as the writer takes them.
 //! - `reason`: why a stream failed.

@@ -1,8 +1,8 @@
 //! Moves waiting bytes to a line.
-ghost use Rattle.std.specs.Prelude.{◌≡◌, ◌+◌, ◌<◌, ◌≤◌, true, false, not, ◌++◌, length, IfOk, MatchOption, OnErr};
+ghost use Rattle.std.specs.Prelude.{◌≡◌, ◌+◌, ◌<◌, ◌≤◌, ℕ, true, false, not, ◌++◌, length, IfOk, MatchOption, OnErr};
 ghost use Rattle.lines.specs.Lines.{has_no_end_by};
 ghost use Rattle.lines.specs.Pieces.{MovesPiece};
-ghost use Rattle.lines.specs.Reading.{HasEndAtBy};
+ghost use Rattle.lines.specs.Reading.{CutsLineBy, HasEndAtBy};
 
 use crate::block::Block;
 use memchr::memchr;
@@ -27,8 +27,8 @@ pub fn move_piece<const END: u8>(
 ) -> io::Result<Piece>
     requires { length line.old.items ≤ longest }
     ensures moved { IfOk result
-        (MovesPiece END longest block.old block.new line.old.items line.new.items) }
-    ensures kept { OnErr result (block.new ≡ block.old) }
+        (MovesPiece END longest block.old.bytes block.new.bytes line.old.items line.new.items) }
+    ensures kept { OnErr result (block.new.bytes ≡ block.old.bytes) }
 {
     match first_end::<END>(block.as_slice()) {
         Some(count) => {
@@ -48,6 +48,25 @@ pub fn move_piece<const END: u8>(
             Ok(Piece::All)
         }
     }
+}
+
+/// Takes the first line that waits, if its end waits too and it isn't too long, and returns whether
+/// it was taken. Its bytes stay where they are.
+#[inline(always)]
+pub fn take_whole<const END: u8>(block: &mut Block, longest: usize) -> bool
+    ensures taken { result ≡ true
+        → (n : ℕ) × CutsLineBy END longest block.old.bytes block.new.bytes block.new.line n }
+    ensures kept { result ≡ false → block.new ≡ block.old }
+    ensures none { result ≡ false → (n : ℕ) → HasEndAtBy END block.old.bytes n → longest < n }
+{
+    let Some(count) = first_end::<END>(block.as_slice()) else {
+        return false;
+    };
+    if count > longest {
+        return false;
+    }
+    block.take_line(count);
+    true
 }
 
 /// Where the first line ends, if its end is among the bytes.

@@ -1,11 +1,11 @@
 //! Reading one line after the other.
-ghost use Rattle.std.specs.Prelude.{◌≡◌, ◌≤◌, false, true, [], drop, length, IfOk, OnErr, OnOk};
+ghost use Rattle.std.specs.Prelude.{◌≡◌, ◌<◌, ◌≤◌, ℕ, false, true, [], drop, length, IfOk, OnErr, OnOk};
 ghost use Rattle.std.specs.Io.KnownBytes.{Consumes, Keeps, prepend_known};
 ghost use Rattle.lines.specs.Losing.{LosesPart};
-ghost use Rattle.lines.specs.Reading.{KnowsEnd, NextLineBy, has_next_by, is_told_by, left_of};
+ghost use Rattle.lines.specs.Reading.{CutsLineBy, HasEndAtBy, KnowsEnd, NextLineBy, has_next_by, is_told_by, left_of};
 
 use crate::block::Block;
-use crate::piece::{Piece, has_end, move_piece};
+use crate::piece::{Piece, has_end, move_piece, take_whole};
 use std::alloc::{AllocError, Global};
 use std::io;
 use std::io::{ErrorKind, Read};
@@ -28,11 +28,14 @@ pub enum Next {
 /// Gives the lines of a reader one after the other, and never reads on once a read told the end.
 /// The byte `END` ends a line.
 ///
-/// The reader keeps one block of bytes and one line, which takes memory as it needs it.
+/// The reader keeps one block of bytes. A line that waits whole in it stays there; one that doesn't
+/// is joined in a line of its own, which takes memory as it needs it.
 #[derive(Drop)]
 pub struct LineReaderBy<const END: u8> {
     block: Block,
     line: Vec<u8>,
+    // Whether the line that was read last lies in the block.
+    in_block: bool,
     ended: bool,
     longest: usize,
 }
@@ -41,13 +44,14 @@ pub struct LineReaderBy<const END: u8> {
 pub type LineReader = LineReaderBy<10>;
 
 impl<const END: u8> Model for LineReaderBy<END> {
+    ghost use Rattle.std.specs.Prelude.{if◌then◌else◌};
     ghost use Rattle.lines.specs.Reading.{Waiting};
 
     ghost Value = { Waiting };
 
     ghost view = { λ r. record {
-      line = r.line.items;
-      bytes = r.block;
+      line = if r.in_block then r.block.line else r.line.items;
+      bytes = r.block.bytes;
       ended = r.ended;
       longest = r.longest;
     } };
@@ -63,6 +67,7 @@ impl<const END: u8> LineReaderBy<END> {
         Ok(LineReaderBy {
             block: Block::new(alloc)?,
             line: Vec::with_capacity(alloc, longest.min(FIRST_ROOM))?,
+            in_block: false,
             ended: false,
             longest,
         })
@@ -72,7 +77,11 @@ impl<const END: u8> LineReaderBy<END> {
     pub fn line(&self) -> &[u8]
         ensures { result.now ≡ self.now.line }
     {
-        self.line.as_slice()
+        if self.in_block {
+            self.block.line()
+        } else {
+            self.line.as_slice()
+        }
     }
 
     /// The bytes that were read and wait, of lines that come.
@@ -90,6 +99,40 @@ impl<const END: u8> LineReaderBy<END> {
         ensures longest { self.new.longest ≡ self.old.longest }
     {
         self.block.skip(count);
+    }
+
+    /// Takes the next line, which has this many bytes, and whose end waits behind them. It isn't
+    /// copied.
+    #[inline(always)]
+    pub fn take_line(&mut self, count: usize)
+        requires ends { HasEndAtBy END self.old.bytes count }
+        requires short { count ≤ self.old.longest }
+        ensures taken { CutsLineBy END self.old.longest
+            self.old.bytes self.new.bytes self.new.line count }
+        ensures ended { self.new.ended ≡ self.old.ended }
+        ensures longest { self.new.longest ≡ self.old.longest }
+    {
+        self.block.take_line(count);
+        self.in_block = true;
+    }
+
+    /// Takes the next line, if its end waits and it isn't too long, and returns whether it was
+    /// taken. It isn't copied, and nothing is read.
+    #[inline(always)]
+    pub fn take_waiting(&mut self) -> bool
+        ensures taken { result ≡ true → (n : ℕ) × CutsLineBy END self.old.longest
+            self.old.bytes self.new.bytes self.new.line n }
+        ensures kept { result ≡ false → self.new ≡ self.old }
+        ensures none { result ≡ false
+            → (n : ℕ) → HasEndAtBy END self.old.bytes n → self.old.longest < n }
+        ensures ended { self.new.ended ≡ self.old.ended }
+        ensures longest { self.new.longest ≡ self.old.longest }
+    {
+        if !take_whole::<END>(&mut self.block, self.longest) {
+            return false;
+        }
+        self.in_block = true;
+        true
     }
 
     /// Whether the next line is told without a read: its end waits, or more bytes than a line may
@@ -126,7 +169,12 @@ impl<const END: u8> LineReaderBy<END> {
         // The reader isn't asked where it needn't be.
         ensures quiet { has_next_by END self.old ≡ true → input.new ≡ input.old }
     {
+        if take_whole::<END>(&mut self.block, self.longest) {
+            self.in_block = true;
+            return Ok(Next::Line);
+        }
         self.line.clear();
+        self.in_block = false;
         fill_line::<END, R>(
             &mut self.block,
             &mut self.line,
@@ -148,13 +196,15 @@ fn fill_line<const END: u8, R: Read>(
     requires empty { line.old.items ≡ [] }
     requires knows { KnowsEnd ended.old (R.remaining input.old) }
     ensures next { IfOk result (NextLineBy END longest
-        (prepend_known block.old (R.remaining input.old))
-        (prepend_known block.new (R.remaining input.new)) line.new.items) }
-    ensures lost { OnErr result (LosesPart END (prepend_known block.old (R.remaining input.old))
-        (prepend_known block.new (R.remaining input.new))) }
+        (prepend_known block.old.bytes (R.remaining input.old))
+        (prepend_known block.new.bytes (R.remaining input.new)) line.new.items) }
+    ensures lost { OnErr result (LosesPart END
+        (prepend_known block.old.bytes (R.remaining input.old))
+        (prepend_known block.new.bytes (R.remaining input.new))) }
     ensures knows { KnowsEnd ended.new (R.remaining input.new) }
     ensures told { ended.old ≡ true → ended.new ≡ true }
-    ensures quiet { is_told_by END ended.old longest block.old ≡ true → input.new ≡ input.old }
+    ensures quiet { is_told_by END ended.old longest block.old.bytes ≡ true
+        → input.new ≡ input.old }
 {
     // A count that no input outlasts: each turn but the last takes a byte or more.
     'pieces: for _piece in 0..u64::MAX {
@@ -177,15 +227,15 @@ fn fill_line<const END: u8, R: Read>(
 
 // Reads a new block where this one is empty, unless the end was told.
 fn refill<R: Read>(block: &mut Block, ended: &mut bool, input: &mut R) -> io::Result<()>
-    requires empty { block.old ≡ [] }
+    requires empty { block.old.bytes ≡ [] }
     requires knows { KnowsEnd ended.old (R.remaining input.old) }
     ensures taken { OnOk result
-        (Consumes (R.remaining input.old) (R.remaining input.new) block.new) }
-    ensures end { OnOk result (ended.new ≡ true → block.new ≡ []) }
+        (Consumes (R.remaining input.old) (R.remaining input.new) block.new.bytes) }
+    ensures end { OnOk result (ended.new ≡ true → block.new.bytes ≡ []) }
     ensures knows { KnowsEnd ended.new (R.remaining input.new) }
     ensures told { ended.old ≡ true → ended.new ≡ true }
     ensures quiet { ended.old ≡ true → input.new ≡ input.old }
-    ensures none { OnErr result (block.new ≡ []) }
+    ensures none { OnErr result (block.new.bytes ≡ []) }
     ensures kept { OnErr result (Keeps (R.remaining input.old) (R.remaining input.new)) }
 {
     if !*ended {

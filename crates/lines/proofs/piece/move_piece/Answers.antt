@@ -4,7 +4,7 @@ use Rattle.lines.proofs.piece.move_piece.Goals as goal
 
 pub returns-then-not-branch : goal.returns-then-not-branch
 returns-then-not-branch g c =
-    let block = c.args.block.now in
+    let block = c.args.block.now.bytes in
     let count = c.in-Some.count in
     let end =
     subst (λ bytes. HasEndAtBy g.row.END bytes count) c.as_slice.ensures c.in-Some.ensures in

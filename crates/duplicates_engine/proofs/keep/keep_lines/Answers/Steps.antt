@@ -1,8 +1,10 @@
 -- What `keep_lines` does before its first step, at each step, and with a line.
-use Rattle.std.proofs.Common.{◌≡◌, refl, rules, Err}
+use Rattle.std.proofs.Common.{◌≡◌, refl, sym, ◌∙◌, ap, rules, Err, Ok}
 use Rattle.std.proofs.KnownBytes.{Keeps-refl}
 use Rattle.lines.specs.Reading.{left_of}
 use Rattle.duplicates_engine.specs.Causes.{FailsBehind}
+use Rattle.duplicates_engine.specs.Longer.{limit_of}
+use Rattle.duplicates_engine.proofs.AheadLemmas.{looked-next, looked-none, looked-opened, looked-same}
 use Rattle.duplicates_engine.proofs.CauseLemmas.{opening-system, step-system, refusal-system, caused-first, caused-step, caused-line, caused-writer}
 use Rattle.duplicates_engine.proofs.EndLemmas.{behind-read}
 use Rattle.duplicates_engine.proofs.HalfwayLemmas.{keeping-first}
@@ -46,11 +48,14 @@ none-comes g c =
     (rw c.total.ensures.tally refl) (rw c.total.ensures.tally refl) c.total.ensures.longer
 
 pub first-opened : goal.steps-init
-first-opened g c =
-    keeping-first g.V.Sieve.span g.V.Sieve.recalls g.V.Sieve.sifts g.row.END c.args.options _ _ _ _
-    _ _ _ _ _ _
-    (rw c.in-Some.is at c.in_ok-input.ensures.opened)
-    c.in_ok-opened.ensures.fresh refl refl
+first-opened g c = record {
+  keeping =
+      keeping-first g.V.Sieve.span g.V.Sieve.recalls g.V.Sieve.sifts g.row.END c.args.options _ _ _
+      _ _ _ _ _ _ _
+      (rw c.in-Some.is at c.in_ok-input.ensures.opened)
+      c.in_ok-opened.ensures.fresh refl refl;
+  looked = looked-none _ _ _ _ _ c.new-ahead.ensures;
+}
 
 pub error-step : goal.returns-in_err-next_step-clause-fault
 unfolding until-fault
@@ -63,7 +68,7 @@ error-step g c =
       until =
           until-fault g.V.Sieve.span g.V.Sieve.recalls g.V.Sieve.sifts g.row.END c.args.options _ _
           _ _ _
-          c.steps.invariant _ c.next_step.ensures.kept _
+          c.steps.invariant.keeping _ c.next_step.ensures.kept _
           (step-system
           (FailsBehind g.I.Inputs.fails
           (left_of c.steps.opened.lines (g.I.Input.Read.remaining c.steps.input))
@@ -71,23 +76,33 @@ error-step g c =
       caused =
           caused-step g.V.Sieve.refuses g.I.Inputs.fails g.row.END c.args.options.longest _ _ _ _ _
           _ _ is
-          (λ last ends. behind-read g.row.END _ _ _ _ _ _ c.steps.invariant.reading ends);
+          (λ last ends. behind-read g.row.END _ _ _ _ _ _ c.steps.invariant.keeping.reading ends);
     })
 
 pub all-ended : goal.returns-in-End-clause-all
 all-ended g c =
     keeps-all g.V.Sieve.span g.V.Sieve.recalls g.V.Sieve.sifts g.row.END c.args.options _ _ _ _ _
-    c.steps.invariant _
+    c.steps.invariant.keeping _
     c.next_step.ensures.kept _ _ (rw c.in-End.is at c.in_ok-next_step.ensures.step)
     c.total-in-End.ensures.tally c.total-in-End.ensures.longer
 
 pub next-opened : goal.steps-preserved-in-Opened
-next-opened g c =
-    keeping-next g.V.Sieve.span g.V.Sieve.recalls g.V.Sieve.sifts g.row.END c.args.options _ _ _ _
-    _ c.steps.invariant
-    _
-    c.next_step.ensures.kept _ _ _ _ (rw c.in-Opened.is at c.in_ok-next_step.ensures.step)
-    c.in_ok-next_step.ensures.knows c.in_ok-next_step.ensures.limit
+next-opened g c = record {
+  keeping =
+      keeping-next g.V.Sieve.span g.V.Sieve.recalls g.V.Sieve.sifts g.row.END c.args.options _ _ _
+      _ _ c.steps.invariant.keeping
+      _
+      c.next_step.ensures.kept _ _ _ _ (rw c.in-Opened.is at c.in_ok-next_step.ensures.step)
+      c.in_ok-next_step.ensures.knows c.in_ok-next_step.ensures.limit;
+  looked =
+      looked-opened (g.V.Sieve.has_hash c.steps.sieve) g.row.END (limit_of c.args.options) _
+      c.next-looked.result c.steps.opened.lines.bytes _ _
+      (looked-same (g.V.Sieve.has_hash c.steps.sieve) g.row.END (limit_of c.args.options)
+      c.next-looked.result c.steps.opened.lines.bytes _ c.limit.ensures c.waiting.ensures
+      c.next-looked.ensures)
+      c.next_step.ensures.looked
+      (λ l took. let wrong = sym took.0 ∙ c.in_ok-next_step.was ∙ ap Ok c.in-Opened.is in cc);
+}
 
 pub error-long : goal.returns-in-TooLong-clause-fault
 error-long g c =
@@ -95,7 +110,7 @@ error-long g c =
       until =
           until-long g.V.Sieve.span g.V.Sieve.recalls g.V.Sieve.sifts g.row.END c.args.options _ _
           _ _ _
-          c.steps.invariant _ c.next_step.ensures.kept
+          c.steps.invariant.keeping _ c.next_step.ensures.kept
           (left_of c.next_step.new.opened.lines
           (g.I.Input.Read.remaining c.next_step.new.input)) _ _
           (rw c.in-TooLong.is at c.in_ok-next_step.ensures.step) c.saturating_add.ensures;
@@ -108,7 +123,7 @@ error-timed g c =
       until =
           until-fault g.V.Sieve.span g.V.Sieve.recalls g.V.Sieve.sifts g.row.END c.args.options _ _
           _ _ _
-          c.steps.invariant _ (Keeps-refl (g.W.Write.contents c.steps.output)) _ tt;
+          c.steps.invariant.keeping _ (Keeps-refl (g.W.Write.contents c.steps.output)) _ tt;
       caused = λ same. cc;
     }
 
@@ -123,13 +138,13 @@ error-sieve g c =
       until =
           until-fault g.V.Sieve.span g.V.Sieve.recalls g.V.Sieve.sifts g.row.END c.args.options _ _
           _ _ _
-          c.steps.invariant _ c.next_step.ensures.kept _
+          c.steps.invariant.keeping _ c.next_step.ensures.kept _
           (refusal-system g.V.Sieve.refuses _ _ _ is);
       caused =
           caused-line g.V.Sieve.refuses g.I.Inputs.fails g.row.END c.args.options.longest _ _ _ _
           _ _ (next-first g.V.Sieve.span g.V.Sieve.recalls g.V.Sieve.sifts g.row.END c.args.options
           _ _ _ _ _
-          c.steps.invariant _ c.next_step.ensures.kept c.next_step.new.opened.lines _ _ _
+          c.steps.invariant.keeping _ c.next_step.ensures.kept c.next_step.new.opened.lines _ _ _
           (rw c.in-Line.is at c.in_ok-next_step.ensures.step) c.line-line.ensures)
           c.in_err-is_held.ensures.short is;
     })
@@ -145,7 +160,7 @@ error-output g c =
       until =
           until-writer g.V.Sieve.span g.V.Sieve.recalls g.V.Sieve.sifts g.row.END c.args.options _
           _ _ _ _
-          c.steps.invariant _ c.next_step.ensures.kept c.next_step.new.opened.lines _ _ _
+          c.steps.invariant.keeping _ c.next_step.ensures.kept c.next_step.new.opened.lines _ _ _
           (rw c.in-Line.is at c.in_ok-next_step.ensures.step) c.line-line.ensures
           c.in_ok-is_held.ensures.sifted (g.met.V.Sieve.none _) c.in_ok-is_held.ensures.new
           c.in_ok-is_held.ensures.taken c.in_ok-is_held.ensures.span c.count_line.ensures.told
@@ -156,14 +171,24 @@ error-output g c =
     })
 
 pub line-kept : goal.steps-preserved
-line-kept g c =
-    keeping-more g.V.Sieve.span g.V.Sieve.recalls g.V.Sieve.sifts g.row.END c.args.options _ _ _ _
-    _ c.steps.invariant
-    _
-    c.next_step.ensures.kept c.next_step.new.opened.lines _ _ _
-    (rw c.in-Line.is at c.in_ok-next_step.ensures.step) c.line-line.ensures
-    c.in_ok-is_held.ensures.sifted (g.met.V.Sieve.none _) c.in_ok-is_held.ensures.new
-    c.in_ok-is_held.ensures.taken c.in_ok-is_held.ensures.span c.count_line.ensures.told
-    (rw c.is_longer.ensures at c.count_line.ensures.longer)
-    _ c.in_ok-next_step.ensures.knows c.in_ok-next_step.ensures.limit
-    (rw c.in_ok-put_chosen.was at c.put_chosen.ensures)
+line-kept g c = record {
+  keeping =
+      keeping-more g.V.Sieve.span g.V.Sieve.recalls g.V.Sieve.sifts g.row.END c.args.options _ _ _
+      _ _ c.steps.invariant.keeping
+      _
+      c.next_step.ensures.kept c.next_step.new.opened.lines _ _ _
+      (rw c.in-Line.is at c.in_ok-next_step.ensures.step) c.line-line.ensures
+      c.in_ok-is_held.ensures.sifted (g.met.V.Sieve.none _) c.in_ok-is_held.ensures.new
+      c.in_ok-is_held.ensures.taken c.in_ok-is_held.ensures.span c.count_line.ensures.told
+      (rw c.is_longer.ensures at c.count_line.ensures.longer)
+      _ c.in_ok-next_step.ensures.knows c.in_ok-next_step.ensures.limit
+      (rw c.in_ok-put_chosen.was at c.put_chosen.ensures);
+  looked =
+      looked-next (g.V.Sieve.has_hash c.steps.sieve) (g.V.Sieve.has_hash c.sift_line.new.sieve)
+      g.row.END (limit_of c.args.options) c.sift_line.ensures.hashes _ c.next-looked.result
+      c.steps.opened.lines.bytes _ _ _
+      (looked-same (g.V.Sieve.has_hash c.steps.sieve) g.row.END (limit_of c.args.options)
+      c.next-looked.result c.steps.opened.lines.bytes _ c.limit.ensures c.waiting.ensures
+      c.next-looked.ensures)
+      c.next_step.ensures.looked;
+}
