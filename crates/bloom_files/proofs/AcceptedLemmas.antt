@@ -6,13 +6,13 @@ use Rattle.bloom_parts.specs.Sip.{sip, whole_words}
 use Rattle.bloom_files.specs.declared.layout.Layout.{Layout}
 use Rattle.bloom_files.specs.File.{bytes_of}
 use Rattle.bloom_files.specs.FileLayouts.{IsFileIn, layout_refusal, numbers_in, refusal_in, seal_refusal_in, sealed_bytes}
-use Rattle.bloom_files.specs.FileRefusals.{file_size, head_in, head_refusal, number_at, size_refusal}
+use Rattle.bloom_files.specs.FileRefusals.{file_size, head_in, head_refusal, number_at, length_refusal}
 use Rattle.bloom_files.proofs.FileLemmas.{good-seal, is-file, neither}
 use Rattle.bloom_files.proofs.NumberLemmas.{length-whole_words}
 use Rattle.bloom_files.proofs.RefusalLemmas.{head_refusal-head, layout_refusal-head, number_at-head, seal_refusal-head}
 
 -- a file of the right size
-right-size : (bytes : List ℕ) → size_refusal bytes ≡ None → length bytes ≡ file_size bytes
+right-size : (bytes : List ℕ) → length_refusal bytes ≡ None → length bytes ≡ file_size bytes
 right-size bytes none = grind (arith, common_steps)
 
 -- a file that isn't refused, cut behind its head
@@ -37,7 +37,7 @@ module _ (layout : Layout) (bytes head body : List ℕ) (is_head : head ≡ take
       sym (layout_refusal-head head body head-size layout)
       ∙ ap (layout_refusal layout) (sym whole)
       ∙ (neither (layout_refusal layout bytes) (seal_refusal_in layout bytes)
-      (neither (size_refusal bytes) _ (neither (head_refusal bytes) _ none).1).1).0
+      (neither (length_refusal bytes) _ (neither (head_refusal bytes) _ none).1).1).0
 
   -- as many bytes as the head tells
   pub body-size : length body ≡ 8 * number_at head 2
@@ -53,7 +53,7 @@ module _ (layout : Layout) (bytes head body : List ℕ) (is_head : head ≡ take
       (sym (seal_refusal-head head body head-size layout)
       ∙ ap (seal_refusal_in layout) (sym whole)
       ∙ (neither (layout_refusal layout bytes) (seal_refusal_in layout bytes)
-      (neither (size_refusal bytes) _ (neither (head_refusal bytes) _ none).1).1).1)
+      (neither (length_refusal bytes) _ (neither (head_refusal bytes) _ none).1).1).1)
 
   -- the words of the bytes behind the head, which come behind none
   module _ (words before : List ℕ) (empty : before ≡ []) (are : words ≡ before ++ whole_words body)

@@ -9,7 +9,7 @@ use Rattle.bloom_parts.specs.Sip.{whole_words}
 use Rattle.bloom_files.specs.declared.error.FileError.{FileError}
 use Rattle.bloom_files.specs.declared.error.FileError.TheVariants.{NotAFilter, Version, HashCount, EmptyWords, TooManyWords, Cut, TooLong, Reserved, Blocked, NotBlocked, PartOfALine, Seal, Memory, Input}
 use Rattle.bloom_files.specs.File.{bytes_of}
-use Rattle.bloom_files.specs.FileReads.{AsksAsGiven, FailsWithin, Gives, ReadsWords, StopsWords}
+use Rattle.bloom_files.specs.FileReads.{AsksAsGiven, FailsWithin, GivesSome, ReadsWords, StopsWords}
 use Rattle.bloom_files.proofs.NumberLemmas.{bytes_of-append, length-bytes_of, length-whole_words}
 
 -- the first words of a list are a block, and the others follow
@@ -175,7 +175,7 @@ room-of-read old mid words f g capacity reads fits = record {
 
 -- the same room, where the reader gave more
 pub room-later : (old mid new : Option (List ℕ)) (capacity same : ℕ) → same ≡ capacity
-    → AsksAsGiven old mid capacity → Gives mid new → AsksAsGiven old new same
+    → AsksAsGiven old mid capacity → GivesSome mid new → AsksAsGiven old new same
 room-later old mid new capacity same is asks gives = record {
   given = asks.given ++ gives.0;
   taken = Consumes-trans old mid new asks.given gives.0 asks.taken gives.1;

@@ -15,7 +15,7 @@ use Rattle.bloom_files.specs.FileReads.{FailsEarly, FailsWithin, ReadsWords, Sto
 use Rattle.bloom_files.specs.FileRefusals.{head_in, head_refusal, number_at, wrong_seal}
 use Rattle.bloom_files.proofs.FileLemmas.{good-seal, is-file}
 use Rattle.bloom_files.proofs.NumberLemmas.{length-bytes_of}
-use Rattle.bloom_files.proofs.RefusalLemmas.{head_refusal-head, number_at-head, refusal_in-head, refusal_in-size, size_refusal-cut, size_refusal-long}
+use Rattle.bloom_files.proofs.RefusalLemmas.{head_refusal-head, number_at-head, refusal_in-head, refusal_in-size, length_refusal-cut, length_refusal-long}
 
 -- what is reported about a head is reported of the file
 pub reported-head : (layout : Layout) (known : Option (List ℕ)) (error : FileError)
@@ -41,7 +41,7 @@ module _ (old mid : Option (List ℕ)) (start : List ℕ) (size : length start �
       told (Some bytes) None taken error stops = absurd taken
       told (Some bytes) (Some body) taken Cut stops =
           rw taken (inl (sym (refusal_in-size start body size layout Cut good
-          (size_refusal-cut start body size stops))))
+          (length_refusal-cut start body size stops))))
       told (Some bytes) (Some body) taken Memory stops =
           rw taken (inr (inl (refl, head_refusal-head start body size ∙ good)))
       told (Some bytes) (Some body) taken (Input kind) stops = inr (inr (kind, refl))
@@ -106,7 +106,7 @@ module _ (old mid end : Option (List ℕ)) (start : List ℕ) (size : length sta
       told (Some bytes) (Some more) taken TooLong stops =
           rw (taken ∙ append_assoc start (bytes_of words) more)
           (inl (sym (refusal_in-size start (bytes_of words ++ more) size layout TooLong good
-          (size_refusal-long start (bytes_of words ++ more) size
+          (length_refusal-long start (bytes_of words ++ more) size
           (omega (arith, right, stops, length-append (bytes_of words) more))))))
       told (Some bytes) (Some more) taken (Input kind) stops = inr (inr (kind, refl))
       told (Some bytes) (Some more) taken NotAFilter stops = absurd stops

@@ -11,7 +11,7 @@ use Rattle.bloom_files.specs.declared.layout.Layout.{Layout}
 use Rattle.bloom_files.specs.declared.layout.Layout.TheVariants.{Whole, Lines}
 use Rattle.bloom_files.specs.File.{mark}
 use Rattle.bloom_files.specs.FileLayouts.{layout_refusal, refusal_in, right_seal_in, seal_refusal_in, sealed_bytes}
-use Rattle.bloom_files.specs.FileRefusals.{has_number, head_refusal, is_hash_count, number_at, size_refusal, wrong_seal}
+use Rattle.bloom_files.specs.FileRefusals.{has_number, head_refusal, is_hash_count, number_at, length_refusal, wrong_seal}
 use Rattle.bloom_files.proofs.NumberLemmas.{length-whole_words, whole_words-append}
 
 -- the refusal of a head, by its first numbers and by which of them are there
@@ -118,37 +118,38 @@ module _ (head body : List ℕ) (size : length head ≡ 64) where
       wrong_seal (number_at-head 5 (omega arith) i) (right_seal_in-head layout i)
 
   -- how many bytes there are, and how many there must be
-  size_refusal-head : size_refusal (head ++ body)
+  length_refusal-head : length_refusal (head ++ body)
       ≡ size_by (length (head ++ body)) (64 + 8 * number_at head 2)
-  size_refusal-head i = size_by (length (head ++ body)) (64 + 8 * number_at-head 2 (omega arith) i)
+  length_refusal-head i =
+      size_by (length (head ++ body)) (64 + 8 * number_at-head 2 (omega arith) i)
 
   -- fewer bytes than the words of the head are cut
-  pub size_refusal-cut : length body < 8 * number_at head 2
-      → size_refusal (head ++ body) ≡ Some Cut
-  size_refusal-cut few =
-      size_refusal-head
+  pub length_refusal-cut : length body < 8 * number_at head 2
+      → length_refusal (head ++ body) ≡ Some Cut
+  length_refusal-cut few =
+      length_refusal-head
       ∙ size_by-cut (length (head ++ body)) (64 + 8 * number_at head 2)
       (omega (arith, size, few, length-append head body))
 
   -- more bytes than the words of the head are too many
-  pub size_refusal-long : 8 * number_at head 2 < length body
-      → size_refusal (head ++ body) ≡ Some TooLong
-  size_refusal-long many =
-      size_refusal-head
+  pub length_refusal-long : 8 * number_at head 2 < length body
+      → length_refusal (head ++ body) ≡ Some TooLong
+  length_refusal-long many =
+      length_refusal-head
       ∙ size_by-long (length (head ++ body)) (64 + 8 * number_at head 2)
       (omega (arith, size, many, length-append head body))
 
   -- as many bytes as the words of the head are right
-  pub size_refusal-none : length body ≡ 8 * number_at head 2
-      → size_refusal (head ++ body) ≡ None
-  size_refusal-none right =
-      size_refusal-head
+  pub length_refusal-none : length body ≡ 8 * number_at head 2
+      → length_refusal (head ++ body) ≡ None
+  length_refusal-none right =
+      length_refusal-head
       ∙ size_by-none (length (head ++ body)) (64 + 8 * number_at head 2)
       (omega (arith, size, right, length-append head body))
 
   -- the refusal of a file whose head isn't refused, but whose size is
   pub refusal_in-size : (layout : Layout) (error : FileError) → head_refusal head ≡ None
-      → size_refusal (head ++ body) ≡ Some error → refusal_in layout (head ++ body) ≡ Some error
+      → length_refusal (head ++ body) ≡ Some error → refusal_in layout (head ++ body) ≡ Some error
   refusal_in-size layout error good is i =
       option_or ((head_refusal-head ∙ good) i)
       (option_or (is i)
@@ -161,5 +162,5 @@ module _ (head body : List ℕ) (size : length head ≡ 64) where
       (wrong_seal (number_at head 5) (sip 0 0 (sealed_bytes layout head ++ body))))
   refusal_in-head layout right i =
       option_or (head_refusal-head i)
-      (option_or (size_refusal-none right i)
+      (option_or (length_refusal-none right i)
       (option_or (layout_refusal-head layout i) (seal_refusal-head layout i)))

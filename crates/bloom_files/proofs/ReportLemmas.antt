@@ -7,14 +7,14 @@ use Rattle.std.specs.Io.KnownBytes.{Consumes, IsAtEnd}
 use Rattle.bloom_files.specs.declared.error.FileError.{FileError}
 use Rattle.bloom_files.specs.declared.layout.Layout.{Layout}
 use Rattle.bloom_files.specs.FileLayouts.{layout_refusal, refusal_in, seal_refusal_in}
-use Rattle.bloom_files.specs.FileRefusals.{head_refusal, size_refusal}
+use Rattle.bloom_files.specs.FileRefusals.{head_refusal, length_refusal}
 use Rattle.bloom_files.proofs.RefusalLemmas.{head_refusal-head}
 
 -- a head that is refused decides for the file
 refusal_in-first : (layout : Layout) (bytes : List ℕ) (error : FileError)
     → head_refusal bytes ≡ Some error → refusal_in layout bytes ≡ Some error
 refusal_in-first layout bytes error is =
-    ap (λ first. option_or first (option_or (size_refusal bytes)
+    ap (λ first. option_or first (option_or (length_refusal bytes)
     (option_or (layout_refusal layout bytes) (seal_refusal_in layout bytes)))) is
 
 -- the refusal of a beginning that is a whole head, or all that the reader had, is that of the file

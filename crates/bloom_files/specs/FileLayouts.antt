@@ -13,7 +13,7 @@ use Rattle.bloom_files.specs.declared.layout.Layout.{Layout}
 use Rattle.bloom_files.specs.declared.layout.Layout.TheVariants.{Whole, Lines}
 use Rattle.bloom_files.specs.File.{bytes_of, opening}
 use Rattle.bloom_files.specs.FileReads.{IsInput}
-use Rattle.bloom_files.specs.FileRefusals.{has_layout, head_refusal, number_at, reserved_refusal, size_refusal, wrong_seal}
+use Rattle.bloom_files.specs.FileRefusals.{has_layout, head_refusal, number_at, reserved_refusal, length_refusal, wrong_seal}
 use Rattle.bloom_plain.specs.Filter.{IsShape}
 
 -- the number of a layout, which stands behind the seal
@@ -60,8 +60,8 @@ pub record IsFileIn (layout : Layout) (bytes : List ℕ) (head : Head) (words : 
 
 -- why the end of a head is refused where lines are read: it has the numbers of no layout, or those
 -- of a filter that isn't blocked, or the words are no whole lines
-abbrev pub lines_refusal : List ℕ → Option FileError
-lines_refusal bytes =
+abbrev pub blocked_refusal : List ℕ → Option FileError
+blocked_refusal bytes =
     if not (has_layout bytes) then Some Reserved
     else if nat_eq (number_at bytes 6) 0 then Some NotBlocked
     else if nat_eq (number_at bytes 2 % 8) 0 then None
@@ -70,7 +70,7 @@ lines_refusal bytes =
 -- why the end of a head is refused where this layout is read
 abbrev pub layout_refusal : Layout → List ℕ → Option FileError
 layout_refusal Whole bytes = reserved_refusal bytes
-layout_refusal Lines bytes = lines_refusal bytes
+layout_refusal Lines bytes = blocked_refusal bytes
 
 -- why a head of 64 bytes is refused where this layout is read
 abbrev pub head_refusal_in : Layout → List ℕ → Option FileError
@@ -92,7 +92,7 @@ seal_refusal_in layout bytes = wrong_seal (number_at bytes 5) (right_seal_in lay
 -- why a file is refused where this layout is read; of several reasons the first counts
 abbrev pub refusal_in : Layout → List ℕ → Option FileError
 refusal_in layout bytes =
-    option_or (head_refusal bytes) (option_or (size_refusal bytes)
+    option_or (head_refusal bytes) (option_or (length_refusal bytes)
     (option_or (layout_refusal layout bytes) (seal_refusal_in layout bytes)))
 
 -- the error, if there is one, is the refusal of the bytes, or out of memory where they aren't

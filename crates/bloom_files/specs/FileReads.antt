@@ -58,8 +58,8 @@ FailsWithin asked old new error =
     (kind : ErrorKind) → error ≡ Input kind → GivesFewer asked old new
 
 -- from old to new a reader gave some bytes
-abbrev pub Gives : Option (List ℕ) → Option (List ℕ) → Type 0
-Gives old new = (given : List ℕ) × Consumes old new given
+abbrev pub GivesSome : Option (List ℕ) → Option (List ℕ) → Type 0
+GivesSome old new = (given : List ℕ) × Consumes old new given
 
 -- there is room for this many words of eight bytes: for a block, and for at most twice as many as
 -- the reader gave

@@ -36,8 +36,8 @@ abbrev pub file_size : List ℕ → ℕ
 file_size bytes = 64 + 8 * number_at bytes 2
 
 -- why a file of another size is refused
-abbrev pub size_refusal : List ℕ → Option FileError
-size_refusal bytes =
+abbrev pub length_refusal : List ℕ → Option FileError
+length_refusal bytes =
     if nat_lt (length bytes) (file_size bytes) then Some Cut
     else if nat_lt (file_size bytes) (length bytes) then Some TooLong
     else None

@@ -3,7 +3,7 @@ ghost use Rattle.std.specs.Prelude.{◌≡◌, ◌+◌, ◌*◌, ◌≤◌, ◌+
 ghost use Rattle.std.specs.Result.{result_err};
 ghost use Rattle.bloom_files.specs.File.{bytes_of};
 ghost use Rattle.bloom_files.specs.FileLayouts.{AreWhole, IsFileIn, IsRefusedIn, refusal_in, seal_refusal_in, sealed_file};
-ghost use Rattle.bloom_files.specs.FileRefusals.{head_refusal, size_refusal};
+ghost use Rattle.bloom_files.specs.FileRefusals.{head_refusal, length_refusal};
 ghost use Rattle.bloom_plain.specs.Filter.{IsShape};
 
 use crate::error::FileError;
@@ -19,7 +19,7 @@ use std::alloc::{AllocError, Global};
 // Refuses a file of another size than its head tells.
 fn check_size(bytes: &[u8]) -> Result<(), FileError>
     requires { head_refusal bytes.now ≡ None }
-    ensures { result_err result ≡ size_refusal bytes.now }
+    ensures { result_err result ≡ length_refusal bytes.now }
 {
     let size = HEAD + 8 * number_at(bytes, 2) as usize;
     if bytes.len() < size {

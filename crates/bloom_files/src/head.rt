@@ -4,7 +4,7 @@ ghost use Rattle.std.specs.Result.{result_err};
 ghost use Rattle.bloom_parts.specs.Hashed.{Hashed};
 ghost use Rattle.bloom_files.specs.declared.layout.Layout.{Layout as ALayout};
 ghost use Rattle.bloom_files.specs.File.{bytes_of, head_numbers, seal_of};
-ghost use Rattle.bloom_files.specs.FileLayouts.{head_refusal_in, layout_refusal, lines_refusal, numbers_in, right_seal, right_seal_in, sealed_bytes};
+ghost use Rattle.bloom_files.specs.FileLayouts.{head_refusal_in, layout_refusal, blocked_refusal, numbers_in, right_seal, right_seal_in, sealed_bytes};
 ghost use Rattle.bloom_files.specs.FileRefusals.{has_layout, head_refusal, whole_head_refusal, reserved_refusal, head_in, number_at, has_number, is_hash_count, wrong_seal};
 
 use crate::error::FileError;
@@ -189,7 +189,7 @@ fn check_reserved(bytes: &[u8]) -> Result<(), FileError>
 
 // Refuses the end of a head that isn't that of whole lines.
 fn check_lines(bytes: &[u8]) -> Result<(), FileError>
-    ensures { result_err result ≡ lines_refusal bytes.now }
+    ensures { result_err result ≡ blocked_refusal bytes.now }
 {
     if !has_layout(bytes) {
         return Err(FileError::Reserved);

@@ -7,7 +7,7 @@ ghost use Rattle.lines.specs.Writing.{AppendsPart};
 ghost use Rattle.bloom_files.specs.declared.layout.Layout.{Layout as ALayout};
 ghost use Rattle.bloom_files.specs.File.{bytes_of};
 ghost use Rattle.bloom_files.specs.FileLayouts.{AreWhole, IsReadIn, IsReportedIn, ReadsParts, WritesParts, sealed_file};
-ghost use Rattle.bloom_files.specs.FileReads.{AsksAsGiven, FailsEarly, FailsWithin, Gives, ReadsWords, StopsEnd, StopsWords};
+ghost use Rattle.bloom_files.specs.FileReads.{AsksAsGiven, FailsEarly, FailsWithin, GivesSome, ReadsWords, StopsEnd, StopsWords};
 ghost use Rattle.bloom_files.specs.FileRefusals.{head_refusal};
 ghost use Rattle.bloom_plain.specs.Filter.{IsShape};
 
@@ -92,7 +92,7 @@ fn read_block<R: Read>(
     ensures stops { IfErr result (StopsWords (8 * more) (R.remaining input.old)) }
     ensures input { IfErr result
         (FailsWithin (8 * more) (R.remaining input.old) (R.remaining input.new)) }
-    ensures gave { Gives (R.remaining input.old) (R.remaining input.new) }
+    ensures gave { GivesSome (R.remaining input.old) (R.remaining input.new) }
     ensures capacity { vec_capacity words.new ≡ vec_capacity words.old }
 {
     let mut block = [0u8; 8 * BLOCK];

@@ -10,7 +10,7 @@ use Rattle.bloom_parts.specs.Sizing.{IsHalvings}
 use Rattle.bloom_parts.specs.declared.math.rate.Rate.{Rate}
 use Rattle.bloom_plain.specs.Filter.{Filter, Inserts}
 use Rattle.bloom_plain.proofs.CaseLemmas.{content-case, content-past, positions-past}
-use Rattle.bloom_growing.specs.Growing.{Plan, plan_of, Growing, IsNumber}
+use Rattle.bloom_growing.specs.Growing.{Setup, setup_of, Growing, IsNumber}
 use Rattle.bloom_growing.specs.Kinds.{Plain}
 use Rattle.bloom_growing.specs.Rotating.{Rotating}
 
@@ -32,15 +32,15 @@ halvings-none den few =
     let root : IsRoot 0 4294967296 = record { at_most = lit≤ tt; greatest = lit< tt } in
     record { enough = (4294967296, root, few); least = λ other is. omega arith }
 
--- a plan for one item at first, at the rate four, under the hasher 7
-abbrev pub plan : Plan ℕ
-plan = plan_of four 1 7
+-- a setup for one item at first, at the rate four, under the hasher 7
+abbrev pub setup : Setup ℕ
+setup = setup_of four 1 7
 
 -- its empty first filter
 abbrev pub for_one : Filter ℕ
 for_one = record { words = 0 ∷ []; hashes = 44; hasher = 7 }
 
-pub number-first : IsNumber Plain plan 0 for_one
+pub number-first : IsNumber Plain setup 0 for_one
 number-first = record {
   rate = two;
   num = refl;
@@ -74,15 +74,15 @@ inserts-one = record {
   hasher = refl;
 }
 
--- a filter that grows under this plan
+-- a filter that grows under this setup
 abbrev pub grown : List (Filter ℕ) → Filter ℕ → ℕ → Growing ℕ
 grown older newest taken =
-    record { plan = plan; older = older; newest = newest; taken = taken }
+    record { setup = setup; older = older; newest = newest; taken = taken }
 
 -- a filter that rotates, for this many items at the rate four
 abbrev pub rotating : (room : ℕ) → (older newer : Filter ℕ) → (taken turns : ℕ) → Rotating ℕ
 rotating room older newer taken turns = record {
-  plan = plan_of four room 7;
+  setup = setup_of four room 7;
   older = older;
   newer = newer;
   taken = taken;

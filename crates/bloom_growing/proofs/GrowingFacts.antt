@@ -6,12 +6,12 @@ use Rattle.bloom_parts.specs.Places.{are_in}
 use Rattle.bloom_parts.specs.declared.error.FilterError.{FilterError}
 use Rattle.bloom_parts.specs.declared.error.FilterError.TheVariants.{Memory}
 use Rattle.bloom_parts.specs.declared.math.rate.Rate.{Rate}
-use Rattle.bloom_growing.specs.Growing.{Plan, plan_of, Growing, newest_room, has, IsGrown}
-use Rattle.bloom_growing.specs.GrowingInserts.{IsBegun, Takes, of_builders, RefusesNumber, RefusesInsert}
-use Rattle.bloom_growing.specs.GrowingLaws.{TakesAll, sum_of_rates, RatesBelowLaw}
+use Rattle.bloom_growing.specs.Growing.{Setup, setup_of, Growing, newest_room, has, IsGrown}
+use Rattle.bloom_growing.specs.GrowingInserts.{IsBegun, Accepts, of_builders, RefusesNumber, RefusesInsert}
+use Rattle.bloom_growing.specs.GrowingLaws.{AcceptsAll, sum_of_rates, RatesBelowLaw}
 use Rattle.bloom_growing.specs.Kinds.{Plain}
 use Rattle.bloom_growing.specs.declared.growing.error.GrowingError.TheVariants.{RateOverflow, TooManyItems, Filter}
-use Rattle.bloom_growing.proofs.Cases.{rate, four, halvings-none, plan, for_one, number-first, with_one, with_five, with_none, inserts-one, grown}
+use Rattle.bloom_growing.proofs.Cases.{rate, four, halvings-none, setup, for_one, number-first, with_one, with_five, with_none, inserts-one, grown}
 use Rattle.bloom_growing.proofs.GrowingLemmas.{took-none}
 
 -- the room is doubled with each filter
@@ -28,24 +28,24 @@ unfolding content chain are_in
 has-one = (refl, refl, refl)
 
 -- what is asked for at the rate four, for one item, under the hasher 7
-abbrev asked : Plan ℕ
+abbrev asked : Setup ℕ
 asked = record { rate = four; room = 1; hasher = 7 }
 
--- a filter that was just made has its plan, no full filter, and took nothing yet
+-- a filter that was just made has its setup, no full filter, and took nothing yet
 begun : IsBegun Plain asked (grown [] for_one 0)
-    × (IsBegun Plain (plan_of four 2 7) (grown [] for_one 0) → ⊥)
+    × (IsBegun Plain (setup_of four 2 7) (grown [] for_one 0) → ⊥)
     × (IsBegun Plain asked (grown (with_one ∷ []) for_one 0) → ⊥)
     × (IsBegun Plain asked (grown [] for_one 1) → ⊥)
 begun = (
-  record { plan = refl; older = refl; newest = number-first; taken = refl },
-  λ is. let wrong : 1 ≡ 2 = ap (λ p. p.room) is.plan in omega (arith, wrong),
+  record { setup = refl; older = refl; newest = number-first; taken = refl },
+  λ is. let wrong : 1 ≡ 2 = ap (λ p. p.room) is.setup in omega (arith, wrong),
   λ is. let wrong : 1 ≡ 0 = ap length is.older in omega (arith, wrong),
   λ is. let wrong : 1 ≡ 0 = is.taken in omega (arith, wrong),
 )
 
 -- a filter that grows from no items on
 abbrev roomless : Growing ℕ
-roomless = record { plan = plan_of four 0 7; older = []; newest = for_one; taken = 0 }
+roomless = record { setup = setup_of four 0 7; older = []; newest = for_one; taken = 0 }
 
 -- it keeps the rule; the newest filter takes no more than its room, which isn't zero at first
 rule : IsGrown Plain (grown [] for_one 0) × (IsGrown Plain (grown [] with_one 2) → ⊥)
@@ -54,7 +54,7 @@ rule = (
   record {
     some_room = lit≤ tt;
     full = tt;
-    newest = took-none Plain plan [] for_one number-first;
+    newest = took-none Plain setup [] for_one number-first;
     most = lit≤ tt;
   },
   λ is. omega (arith, is.most),
@@ -62,19 +62,19 @@ rule = (
 )
 
 -- a new hash is taken by the newest filter, where that one has room
-takes-spare : Takes Plain (grown [] with_none 0) 1 (grown [] with_one 1) false
+takes-spare : Accepts Plain (grown [] with_none 0) 1 (grown [] with_one 1) false
 unfolding content chain are_in
 takes-spare = record {
   answers = refl;
   held = λ held. let wrong : false ≡ true = held in cc;
-  spare = λ _ _. record { plan = refl; older = refl; newest = inserts-one; taken = refl };
+  spare = λ _ _. record { setup = refl; older = refl; newest = inserts-one; taken = refl };
   full = λ _ full. absurd (omega (arith, full));
 }
 
 -- it counts, the reply isn't true, and the next filter doesn't begin early
-spare-wrong : (Takes Plain (grown [] with_none 0) 1 (grown [] with_one 0) false → ⊥)
-    × (Takes Plain (grown [] with_none 0) 1 (grown [] with_one 1) true → ⊥)
-    × (Takes Plain (grown [] with_none 0) 1 (grown (with_none ∷ []) with_one 1) false → ⊥)
+spare-wrong : (Accepts Plain (grown [] with_none 0) 1 (grown [] with_one 0) false → ⊥)
+    × (Accepts Plain (grown [] with_none 0) 1 (grown [] with_one 1) true → ⊥)
+    × (Accepts Plain (grown [] with_none 0) 1 (grown (with_none ∷ []) with_one 1) false → ⊥)
 unfolding content chain are_in
 spare-wrong = (
   λ did. let wrong : 0 ≡ 1 = (did.spare refl (lit< tt)).taken in omega (arith, wrong),
@@ -84,8 +84,8 @@ spare-wrong = (
 )
 
 -- nor late, and a hash that is contained doesn't count
-full-wrong : (Takes Plain (grown [] with_five 1) 1 (grown [] with_one 2) false → ⊥)
-    × (Takes Plain (grown [] with_one 0) 1 (grown [] with_one 1) true → ⊥)
+full-wrong : (Accepts Plain (grown [] with_five 1) 1 (grown [] with_one 2) false → ⊥)
+    × (Accepts Plain (grown [] with_one 0) 1 (grown [] with_one 1) true → ⊥)
 unfolding content chain are_in
 full-wrong = (
   λ did.
@@ -96,8 +96,8 @@ full-wrong = (
 )
 
 -- a list is one insert after the other, and no list changes nothing
-takes-all : TakesAll Plain (grown [] with_none 0) (1 ∷ []) (grown [] with_one 1)
-    × (TakesAll Plain (grown [] with_one 0) [] (grown [] with_one 1) → ⊥)
+takes-all : AcceptsAll Plain (grown [] with_none 0) (1 ∷ []) (grown [] with_one 1)
+    × (AcceptsAll Plain (grown [] with_one 0) [] (grown [] with_one 1) → ⊥)
 takes-all = (
   (grown [] with_one 1, false, takes-spare, refl),
   λ all. let wrong : 1 ≡ 0 = ap (λ g. g.taken) all in omega (arith, wrong),

@@ -8,7 +8,7 @@ use Rattle.bloom_parts.specs.declared.math.rate.Rate.{Rate}
 use Rattle.bloom_parts.specs.Rates.{num_of, den_of}
 use Rattle.bloom_plain.specs.Builders.{RefusesAs}
 use Rattle.bloom_plain.specs.Filter.{Filter}
-use Rattle.bloom_growing.specs.Growing.{Plan, Growing, room_at, den_at, newest_room, rate_start, IsNumber, any_contains, Took, IsKeyed, IsKept}
+use Rattle.bloom_growing.specs.Growing.{Setup, Growing, room_at, den_at, newest_room, rate_start, IsNumber, any_contains, Took, IsKeyed, IsSound}
 use Rattle.bloom_growing.specs.GrowingInserts.{of_builders, RefusesNumber}
 use Rattle.bloom_growing.specs.Kinds.{Kind, InsertsIn, IsMadeIn, IsSizeIn, size_refusal_in}
 use Rattle.bloom_growing.specs.declared.growing.error.GrowingError.{GrowingError}
@@ -17,16 +17,16 @@ use Rattle.bloom_growing.proofs.GrowingLemmas.{room_at-next, den_at-next, took-n
 use Rattle.bloom_growing.proofs.GrowingRefusalLemmas.{refuses-rate, refuses-room, refuses-size}
 
 -- the builders made a filter for the rate and the room of its number
-pub is_number : {S : Type 0} (kind : Kind) (plan : Plan S) (i : ℕ) (half : Rate) (many : ℕ)
+pub is_number : {S : Type 0} (kind : Kind) (setup : Setup S) (i : ℕ) (half : Rate) (many : ℕ)
     (made : Filter S)
-    → num_of half ≡ num_of plan.rate → den_of half ≡ den_at plan.rate i
-    → many ≡ room_at plan.room i → IsMadeIn kind (rate_start half plan.hasher) many made
-    → IsNumber kind plan i made
-is_number kind plan i half many made num den is made_for = record {
+    → num_of half ≡ num_of setup.rate → den_of half ≡ den_at setup.rate i
+    → many ≡ room_at setup.room i → IsMadeIn kind (rate_start half setup.hasher) many made
+    → IsNumber kind setup i made
+is_number kind setup i half many made num den is made_for = record {
   rate = half;
   num = num;
   den = den;
-  is_made = subst (λ n. IsMadeIn kind (rate_start half plan.hasher) n made) is made_for;
+  is_made = subst (λ n. IsMadeIn kind (rate_start half setup.hasher) n made) is made_for;
 }
 
 -- a room is above zero
@@ -35,22 +35,22 @@ some_room_at zero i some = absurd (omega (arith, some))
 some_room_at (suc room) i some = omega (arith, one-le-pow i 2 (lit≤ tt))
 
 -- the first filter keeps the rule
-pub kept-begun : (kind : Kind) (plan : Plan (CloneBuildHasher RandomDefaultHasher))
+pub kept-begun : (kind : Kind) (setup : Setup (CloneBuildHasher RandomDefaultHasher))
     (none : List (Filter (CloneBuildHasher RandomDefaultHasher)))
-    (made : Filter (CloneBuildHasher RandomDefaultHasher)) (half : Rate) → 1 ≤ plan.room
-    → IsKeyed plan.hasher → none ≡ [] → IsNumber kind plan 0 made
-    → num_of half ≡ num_of plan.rate → den_of half ≡ den_at plan.rate 0
-    → IsKept kind (record { plan = plan; older = none; newest = made; taken = 0 }) half
-    plan.room
-kept-begun kind plan none made half some key is number num den =
+    (made : Filter (CloneBuildHasher RandomDefaultHasher)) (half : Rate) → 1 ≤ setup.room
+    → IsKeyed setup.hasher → none ≡ [] → IsNumber kind setup 0 made
+    → num_of half ≡ num_of setup.rate → den_of half ≡ den_at setup.rate 0
+    → IsSound kind (record { setup = setup; older = none; newest = made; taken = 0 }) half
+    setup.room
+kept-begun kind setup none made half some key is number num den =
     subst
-    (λ l. IsKept kind (record { plan = plan; older = l; newest = made; taken = 0 }) half
-    plan.room)
+    (λ l. IsSound kind (record { setup = setup; older = l; newest = made; taken = 0 }) half
+    setup.room)
     (sym is) (record {
       grown = record {
         some_room = some;
         full = tt;
-        newest = took-none kind plan [] made number;
+        newest = took-none kind setup [] made number;
         most = omega arith;
       };
       key = key;
@@ -62,23 +62,23 @@ kept-begun kind plan none made half some key is number num den =
 -- the next filter is refused with this error
 abbrev pub RefusesNext : Kind → Growing (CloneBuildHasher RandomDefaultHasher)
     → Option GrowingError → Type 0
-RefusesNext kind g = RefusesNumber kind g.plan.rate g.plan.room (length g.older + 1)
+RefusesNext kind g = RefusesNumber kind g.setup.rate g.setup.room (length g.older + 1)
 
 module _ (kind : Kind) (g : Growing (CloneBuildHasher RandomDefaultHasher)) (rate : Rate) (room : ℕ)
-    (kept : IsKept kind g rate room) where
+    (kept : IsSound kind g rate room) where
   -- the rate of the next filter has twice the lower part
-  next-den : den_of rate * 2 ≡ den_at g.plan.rate (length g.older + 1)
-  next-den = ap (λ n. n * 2) kept.den ∙ sym (den_at-next g.plan.rate (length g.older))
+  next-den : den_of rate * 2 ≡ den_at g.setup.rate (length g.older + 1)
+  next-den = ap (λ n. n * 2) kept.den ∙ sym (den_at-next g.setup.rate (length g.older))
 
   -- the next filter has twice the room
-  next-room : room * 2 ≡ room_at g.plan.room (length g.older + 1)
-  next-room = ap (λ n. n * 2) kept.newest_is ∙ sym (room_at-next g.plan.room (length g.older))
+  next-room : room * 2 ≡ room_at g.setup.room (length g.older + 1)
+  next-room = ap (λ n. n * 2) kept.newest_is ∙ sym (room_at-next g.setup.room (length g.older))
 
   -- the next filter is refused where the rate can't be halved
   pub refuses-next_rate : (error : GrowingError) → 2 ^ 64 ≤ den_of rate * 2 → error ≡ RateOverflow
       → RefusesNext kind g (Some error)
   refuses-next_rate error =
-      refuses-rate kind g.plan.rate g.plan.room (length g.older + 1) _ error next-den
+      refuses-rate kind g.setup.rate g.setup.room (length g.older + 1) _ error next-den
 
   module _ (half : Rate) (num : num_of half ≡ num_of rate) (den : den_of half ≡ den_of rate * 2)
     where
@@ -86,7 +86,7 @@ module _ (kind : Kind) (g : Growing (CloneBuildHasher RandomDefaultHasher)) (rat
       pub refuses-next_room : den_of half < 2 ^ 64 → 2 ^ 64 ≤ room * 2
           → RefusesNext kind g (Some TooManyItems)
       refuses-next_room fits =
-          refuses-room kind g.plan.rate g.plan.room (length g.older + 1) _ _ (den ∙ next-den) fits
+          refuses-room kind g.setup.rate g.setup.room (length g.older + 1) _ _ (den ∙ next-den) fits
           next-room
 
       module _ (many : ℕ) (is_room : many ≡ room * 2) where
@@ -101,26 +101,26 @@ module _ (kind : Kind) (g : Growing (CloneBuildHasher RandomDefaultHasher)) (rat
               arith,
               is_room,
               kept.newest_is,
-              some_room_at g.plan.room (length g.older) kept.grown.some_room,
+              some_room_at g.setup.room (length g.older) kept.grown.some_room,
             ) in
-            refuses-size kind g.plan.rate g.plan.room (length g.older + 1) half many
+            refuses-size kind g.setup.rate g.setup.room (length g.older + 1) half many
             refusal (num ∙ kept.num) (den ∙ next-den) fits (is_room ∙ next-room) few some sized
 
         -- a filter that was made for this rate and this room has the next number
         pub next-number : (made new : Filter (CloneBuildHasher RandomDefaultHasher)) → new ≡ made
-            → IsMadeIn kind (rate_start half g.plan.hasher) many made
-            → IsNumber kind g.plan (length g.older + 1) new
+            → IsMadeIn kind (rate_start half g.setup.hasher) many made
+            → IsNumber kind g.setup (length g.older + 1) new
         next-number made new is made_for =
-            subst (IsNumber kind g.plan (length g.older + 1)) (sym is)
-            (is_number kind g.plan (length g.older + 1) half many made (num ∙ kept.num)
+            subst (IsNumber kind g.setup (length g.older + 1)) (sym is)
+            (is_number kind g.setup (length g.older + 1) half many made (num ∙ kept.num)
             (den ∙ next-den) (is_room ∙ next-room) made_for)
 
         -- the next filter keeps the rule, if the newest was full
         pub kept-begins : (made new : Filter (CloneBuildHasher RandomDefaultHasher)) → new ≡ made
-            → IsMadeIn kind (rate_start half g.plan.hasher) many made
+            → IsMadeIn kind (rate_start half g.setup.hasher) many made
             → (items : List (Filter (CloneBuildHasher RandomDefaultHasher)))
             → items ≡ g.older ++ g.newest ∷ [] → newest_room g ≤ g.taken
-            → IsKept kind (record { plan = g.plan; older = items; newest = new; taken = 0 })
+            → IsSound kind (record { setup = g.setup; older = items; newest = new; taken = 0 })
             half many
         kept-begins made new is made_for items are full =
             let more : length (g.older ++ g.newest ∷ []) ≡ length g.older + 1 =
@@ -128,33 +128,33 @@ module _ (kind : Kind) (g : Growing (CloneBuildHasher RandomDefaultHasher)) (rat
             let number = next-number made new is made_for in
             let grown = kept.grown in
             subst
-            (λ l. IsKept kind (record { plan = g.plan; older = l; newest = new; taken = 0 })
+            (λ l. IsSound kind (record { setup = g.setup; older = l; newest = new; taken = 0 })
             half many)
             (sym are) (record {
               grown = record {
                 some_room = grown.some_room;
                 full =
-                    are_full-next kind g.plan [] g.older g.newest grown.full
-                    (subst (λ n. Took kind g.plan g.older n g.newest)
+                    are_full-next kind g.setup [] g.older g.newest grown.full
+                    (subst (λ n. Took kind g.setup g.older n g.newest)
                     (omega (arith, grown.most, full))
                     grown.newest);
                 newest =
-                    took-none kind g.plan (g.older ++ g.newest ∷ []) new
-                    (subst (λ n. IsNumber kind g.plan n new) (sym more) number);
+                    took-none kind g.setup (g.older ++ g.newest ∷ []) new
+                    (subst (λ n. IsNumber kind g.setup n new) (sym more) number);
                 most = omega arith;
               };
               key = kept.key;
               num = num ∙ kept.num;
-              den = den ∙ next-den ∙ ap (den_at g.plan.rate) (sym more);
-              newest_is = is_room ∙ next-room ∙ ap (room_at g.plan.room) (sym more);
+              den = den ∙ next-den ∙ ap (den_at g.setup.rate) (sym more);
+              newest_is = is_room ∙ next-room ∙ ap (room_at g.setup.room) (sym more);
             })
 
   -- the newest filter with one more hash keeps the rule
   pub kept-adds : (hash : ℕ) (new : Filter (CloneBuildHasher RandomDefaultHasher))
       → any_contains kind g.older hash ≡ false → g.taken < newest_room g
       → InsertsIn kind g.newest hash new false
-      → IsKept kind (record {
-        plan = g.plan;
+      → IsSound kind (record {
+        setup = g.setup;
         older = g.older;
         newest = new;
         taken = g.taken + 1;
@@ -164,7 +164,7 @@ module _ (kind : Kind) (g : Growing (CloneBuildHasher RandomDefaultHasher)) (rat
       some_room = kept.grown.some_room;
       full = kept.grown.full;
       newest =
-          took-next kind g.plan g.older g.taken g.newest new hash kept.grown.newest absent did;
+          took-next kind g.setup g.older g.taken g.newest new hash kept.grown.newest absent did;
       most = omega (arith, spare);
     };
     key = kept.key;

@@ -5,8 +5,8 @@ use Rattle.std.proofs.lemmas.Bool.{or_cases, or_left, or_right, cases_lt}
 use Rattle.bloom_parts.specs.Rates.{num_of, den_of}
 use Rattle.bloom_parts.specs.declared.math.rate.Rate.{Rate}
 use Rattle.bloom_growing.specs.Growing.{Growing, any_contains, has, den_at, newest_room}
-use Rattle.bloom_growing.specs.GrowingInserts.{Begins, Adds, Takes}
-use Rattle.bloom_growing.specs.GrowingLaws.{TakesAll, sum_of_rates, RatesBelowLaw}
+use Rattle.bloom_growing.specs.GrowingInserts.{BeginsNext, Adds, Accepts}
+use Rattle.bloom_growing.specs.GrowingLaws.{AcceptsAll, sum_of_rates, RatesBelowLaw}
 use Rattle.bloom_growing.specs.Kinds.{Kind, contains_in}
 use Rattle.bloom_growing.proofs.GrowingLemmas.{has-or}
 use Rattle.bloom_growing.proofs.GrowingKeptLemmas.{some_room_at}
@@ -24,7 +24,7 @@ module _ {S : Type 0} (kind : Kind) where
   has-newest g hash found = has-or kind g hash ∙ or_right (any_contains kind g.older hash) _ found
 
   -- the filters before the next one are all older then
-  has-begins : (old new : Growing S) (hash : ℕ) → Begins kind old new → has kind old hash ≡ true
+  has-begins : (old new : Growing S) (hash : ℕ) → BeginsNext kind old new → has kind old hash ≡ true
       → has kind new hash ≡ true
   has-begins old new hash begins found =
       has-older new hash (ap (λ l. any_contains kind l hash) begins.older ∙ found)
@@ -50,7 +50,7 @@ module _ {S : Type 0} (kind : Kind) where
 
   -- an insert by its reply: nothing changed, or the hash was added
   kept-takes : (old new : Growing S) (came hash : ℕ) (reply held : Bool) → has kind old came ≡ held
-      → Takes kind old came new reply → has kind old hash ≡ true → has kind new hash ≡ true
+      → Accepts kind old came new reply → has kind old hash ≡ true → has kind new hash ≡ true
   kept-takes old new came hash reply true is takes found =
       subst (λ g. has kind g hash ≡ true) (sym (takes.held is)) found
   kept-takes old new came hash reply false is takes found =
@@ -63,7 +63,7 @@ module _ {S : Type 0} (kind : Kind) where
 
   -- a hash that came is contained, whether it was before or not
   found-takes : (old new : Growing S) (hash : ℕ) (reply held : Bool) → has kind old hash ≡ held
-      → Takes kind old hash new reply → has kind new hash ≡ true
+      → Accepts kind old hash new reply → has kind new hash ≡ true
   found-takes old new hash reply true is takes =
       subst (λ g. has kind g hash ≡ true) (sym (takes.held is)) is
   found-takes old new hash reply false is takes =
@@ -75,7 +75,7 @@ module _ {S : Type 0} (kind : Kind) where
 
 -- what is contained stays, one insert after the other
 pub growing_kept_law : (S : Type 0) (kind : Kind) (old new : Growing S) (hashes : List ℕ) (hash : ℕ)
-    → TakesAll kind old hashes new → has kind old hash ≡ true → has kind new hash ≡ true
+    → AcceptsAll kind old hashes new → has kind old hash ≡ true → has kind new hash ≡ true
 growing_kept_law S kind old new [] hash all found =
     subst (λ g. has kind g hash ≡ true) (sym all) found
 growing_kept_law S kind old new (came ∷ later) hash all found =
@@ -84,7 +84,7 @@ growing_kept_law S kind old new (came ∷ later) hash all found =
 
 -- the hash is contained once it came, and stays
 pub growing_found_law : (S : Type 0) (kind : Kind) (old new : Growing S) (earlier later : List ℕ)
-    (hash : ℕ) → TakesAll kind old (earlier ++ hash ∷ later) new → has kind new hash ≡ true
+    (hash : ℕ) → AcceptsAll kind old (earlier ++ hash ∷ later) new → has kind new hash ≡ true
 growing_found_law S kind old new [] later hash all =
     growing_kept_law S kind all.0 new later hash all.3
     (found-takes kind old all.0 hash all.1 (has kind old hash) refl all.2)

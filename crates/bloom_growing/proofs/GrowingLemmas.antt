@@ -7,7 +7,7 @@ use Rattle.std.proofs.lemmas.List.Folds.{list_any-append}
 use Rattle.bloom_parts.specs.Rates.{den_of}
 use Rattle.bloom_parts.specs.declared.math.rate.Rate.{Rate}
 use Rattle.bloom_plain.specs.Filter.{Filter}
-use Rattle.bloom_growing.specs.Growing.{Plan, Growing, room_at, den_at, rate_start, IsNumber, any_contains, has, Took, AreFull}
+use Rattle.bloom_growing.specs.Growing.{Setup, Growing, room_at, den_at, rate_start, IsNumber, any_contains, has, Took, AreFull}
 use Rattle.bloom_growing.specs.Kinds.{Kind, contains_in, InsertsIn}
 use Rattle.bloom_growing.proofs.KindLemmas.{new-next, made-zeros, made-hashes, zeros-contain}
 
@@ -31,18 +31,18 @@ has-or kind g hash =
     ∙ ap (λ b. any_contains kind g.older hash || b) (or-false (contains_in kind g.newest hash))
 
 -- a filter that was just made contains no hash
-pub made-empty : {S : Type 0} (kind : Kind) (plan : Plan S) (i : ℕ) (made : Filter S) (hash : ℕ)
-    → IsNumber kind plan i made → contains_in kind made hash ≡ false
-made-empty kind plan i made hash is =
-    let start = rate_start is.rate plan.hasher in
-    let zeros = made-zeros kind start (room_at plan.room i) made is.is_made in
+pub made-empty : {S : Type 0} (kind : Kind) (setup : Setup S) (i : ℕ) (made : Filter S) (hash : ℕ)
+    → IsNumber kind setup i made → contains_in kind made hash ≡ false
+made-empty kind setup i made hash is =
+    let start = rate_start is.rate setup.hasher in
+    let zeros = made-zeros kind start (room_at setup.room i) made is.is_made in
     zeros-contain kind made hash zeros.0
-    (made-hashes kind start (room_at plan.room i) made is.is_made) zeros.1
+    (made-hashes kind start (room_at setup.room i) made is.is_made) zeros.1
 
 -- a filter that was just made took no hash
-pub took-none : {S : Type 0} (kind : Kind) (plan : Plan S) (older : List (Filter S))
-    (made : Filter S) → IsNumber kind plan (length older) made → Took kind plan older 0 made
-took-none kind plan older made is = record {
+pub took-none : {S : Type 0} (kind : Kind) (setup : Setup S) (older : List (Filter S))
+    (made : Filter S) → IsNumber kind setup (length older) made → Took kind setup older 0 made
+took-none kind setup older made is = record {
   made = made;
   is_made = is;
   hashes = [];
@@ -52,11 +52,11 @@ took-none kind plan older made is = record {
 }
 
 -- a filter took one more hash
-pub took-next : {S : Type 0} (kind : Kind) (plan : Plan S) (older : List (Filter S)) (count : ℕ)
-    (filter new : Filter S) (hash : ℕ) → Took kind plan older count filter
+pub took-next : {S : Type 0} (kind : Kind) (setup : Setup S) (older : List (Filter S)) (count : ℕ)
+    (filter new : Filter S) (hash : ℕ) → Took kind setup older count filter
     → any_contains kind older hash ≡ false → InsertsIn kind filter hash new false
-    → Took kind plan older (count + 1) new
-took-next kind plan older count filter new hash took absent did =
+    → Took kind setup older (count + 1) new
+took-next kind setup older count filter new hash took absent did =
     let P = λ (h : ℕ). any_contains kind older h ≡ false in
     let before = took.hashes in record {
       made = took.made;
@@ -68,17 +68,17 @@ took-next kind plan older count filter new hash took absent did =
     }
 
 -- one more filter is full
-pub are_full-next : {S : Type 0} (kind : Kind) (plan : Plan S) (before older : List (Filter S))
-    (f : Filter S) → AreFull kind plan before older
-    → Took kind plan (before ++ older) (room_at plan.room (length (before ++ older))) f
-    → AreFull kind plan before (older ++ f ∷ [])
-are_full-next kind plan before [] f full took = (
-  subst (λ l. Took kind plan l (room_at plan.room (length l)) f) (append-nil before) took,
+pub are_full-next : {S : Type 0} (kind : Kind) (setup : Setup S) (before older : List (Filter S))
+    (f : Filter S) → AreFull kind setup before older
+    → Took kind setup (before ++ older) (room_at setup.room (length (before ++ older))) f
+    → AreFull kind setup before (older ++ f ∷ [])
+are_full-next kind setup before [] f full took = (
+  subst (λ l. Took kind setup l (room_at setup.room (length l)) f) (append-nil before) took,
   tt,
 )
-are_full-next kind plan before (x ∷ older) f full took = (
+are_full-next kind setup before (x ∷ older) f full took = (
   full.0,
-  are_full-next kind plan (before ++ x ∷ []) older f full.1
-      (subst (λ l. Took kind plan l (room_at plan.room (length l)) f)
+  are_full-next kind setup (before ++ x ∷ []) older f full.1
+      (subst (λ l. Took kind setup l (room_at setup.room (length l)) f)
       (sym (append_assoc before (x ∷ []) older)) took),
 )

@@ -2,13 +2,13 @@
 use Rattle.std.proofs.Common.{◌≡◌, ℕ, ◌<◌, ◌≤◌, Bool, true, false, ◌||◌, refl, sym, ◌∙◌, ap, subst, arith}
 use Rattle.std.proofs.lemmas.Bool.{both_ways}
 use Rattle.bloom_growing.specs.Growing.{Growing, newest_room, any_contains, has}
-use Rattle.bloom_growing.specs.GrowingInserts.{Begins, Adds, Takes}
+use Rattle.bloom_growing.specs.GrowingInserts.{BeginsNext, Adds, Accepts}
 use Rattle.bloom_growing.specs.Kinds.{Kind, contains_in}
 use Rattle.bloom_growing.proofs.GrowingLemmas.{has-or}
 
 module _ {S : Type 0} (kind : Kind) (g : Growing S) (hash : ℕ) where
   -- a hash that is contained changes nothing
-  pub takes-held : has kind g hash ≡ true → Takes kind g hash g true
+  pub takes-held : has kind g hash ≡ true → Accepts kind g hash g true
   takes-held held = record {
     answers = sym held;
     held = λ _. refl;
@@ -26,9 +26,9 @@ module _ {S : Type 0} (kind : Kind) (g : Growing S) (hash : ℕ) where
   pub takes-spare : (new : Growing S) (reply : Bool) → any_contains kind g.older hash ≡ false
       → g.taken < newest_room g → reply ≡ contains_in kind g.newest hash
       → (reply ≡ true → new ≡ g) → (reply ≡ false → Adds kind g hash new)
-      → Takes kind g hash new reply
+      → Accepts kind g hash new reply
   takes-spare new true absent spare is held adds =
-      subst (λ n. Takes kind g hash n true) (sym (held refl))
+      subst (λ n. Accepts kind g hash n true) (sym (held refl))
       (takes-held (has-or kind g hash ∙ ap (λ b. b || contains_in kind g.newest hash) absent
       ∙ sym is))
   takes-spare new false absent spare is held adds =
@@ -42,9 +42,9 @@ module _ {S : Type 0} (kind : Kind) (g : Growing S) (hash : ℕ) where
 
   -- where the newest filter is full, the next one has no hash, and adds this one
   pub takes-full : (next new : Growing S) (reply : Bool) → any_contains kind g.older hash ≡ false
-      → newest_room g ≤ g.taken → contains_in kind g.newest hash ≡ false → Begins kind g next
+      → newest_room g ≤ g.taken → contains_in kind g.newest hash ≡ false → BeginsNext kind g next
       → contains_in kind next.newest hash ≡ false → reply ≡ contains_in kind next.newest hash
-      → (reply ≡ false → Adds kind next hash new) → Takes kind g hash new reply
+      → (reply ≡ false → Adds kind next hash new) → Accepts kind g hash new reply
   takes-full next new reply absent full none begins empty is adds =
       let none_all : has kind g hash ≡ false = has-none absent none in
       record {

@@ -20,7 +20,7 @@ record Holds {S : Type 0} (kind : Kind) (r : Rotating S) (came : List ℕ) : Typ
   newer : (front behind : List ℕ) (hash : ℕ) → came ≡ front ++ hash ∷ behind
       → count behind < r.taken → contains_in kind r.newer hash ≡ true
   both : (front behind : List ℕ) (hash : ℕ) → came ≡ front ++ hash ∷ behind
-      → count behind < r.plan.room → either_contains kind r hash ≡ true
+      → count behind < r.setup.room → either_contains kind r hash ≡ true
 
 -- before any hash came there is nothing to contain
 holds-none : {S : Type 0} (kind : Kind) (r : Rotating S) → Holds kind r []
@@ -115,7 +115,7 @@ module _ {S : Type 0} (kind : Kind) (old : Rotating S) (hash : ℕ) (came : List
           holds.newer front is.0 other is.2
           (omega (arith, few, some-more nat_eq unsigned_Decides is.0 hash, ap count is.1))
 
-      both : (front behind : List ℕ) (other : ℕ) → count behind < old.plan.room
+      both : (front behind : List ℕ) (other : ℕ) → count behind < old.setup.room
           → Cut front behind other → either_contains kind old other ≡ true
       both front behind other few (inl same) =
           or-true-left (contains_in kind old.newer other) (contains_in kind old.older other)
@@ -126,8 +126,8 @@ module _ {S : Type 0} (kind : Kind) (old : Rotating S) (hash : ℕ) (came : List
 
   -- the newer filter took the hash, and stays the newer one
   filled : (new : Rotating S) → contains_in kind old.newer hash ≡ false → Fills kind old hash new
-      → new.plan ≡ old.plan → Holds kind new (came ++ hash ∷ [])
-  filled new absent fills plan = record {
+      → new.setup ≡ old.setup → Holds kind new (came ++ hash ∷ [])
+  filled new absent fills setup = record {
     newer = λ front behind other cut few.
         filled-has new.newer fills.newer absent front behind other cut
         (omega (arith, few, fills.taken));
@@ -135,7 +135,7 @@ module _ {S : Type 0} (kind : Kind) (old : Rotating S) (hash : ℕ) (came : List
         both front behind other few (cut-last came front behind hash other cut);
   }
     where
-      both : (front behind : List ℕ) (other : ℕ) → count behind < new.plan.room
+      both : (front behind : List ℕ) (other : ℕ) → count behind < new.setup.room
           → Cut front behind other → either_contains kind new other ≡ true
       both front behind other few (inl same) =
           or-true-left (contains_in kind new.newer other) (contains_in kind new.older other)
@@ -151,20 +151,20 @@ module _ {S : Type 0} (kind : Kind) (old : Rotating S) (hash : ℕ) (came : List
           (omega (
             arith,
             few,
-            ap (λ p. p.room) plan,
+            ap (λ p. p.room) setup,
             some-more nat_eq unsigned_Decides is.0 hash,
             ap count is.1,
           ))))
 
   -- the newer filter took the hash, and became the older one
   turned : (new : Rotating S) → contains_in kind old.newer hash ≡ false → Turns kind old hash new
-      → new.plan ≡ old.plan → old.plan.room ≤ old.taken + 1 → Holds kind new (came ++ hash ∷ [])
-  turned new absent turns plan full = record {
+      → new.setup ≡ old.setup → old.setup.room ≤ old.taken + 1 → Holds kind new (came ++ hash ∷ [])
+  turned new absent turns setup full = record {
     newer = λ front behind other cut few. absurd (omega (arith, few, turns.taken));
     both = λ front behind other cut few.
         or-true-right (contains_in kind new.newer other) (contains_in kind new.older other)
         (filled-has new.older turns.older absent front behind other cut
-        (omega (arith, few, ap (λ p. p.room) plan, full)));
+        (omega (arith, few, ap (λ p. p.room) setup, full)));
   }
 
   -- one more hash came
@@ -172,15 +172,15 @@ module _ {S : Type 0} (kind : Kind) (old : Rotating S) (hash : ℕ) (came : List
       → Holds kind new (came ++ hash ∷ [])
   holds-more new reply did = by (contains_in kind old.newer hash) refl
     where
-      room : (old.taken + 1 < old.plan.room) ⊎ (old.plan.room ≤ old.taken + 1)
+      room : (old.taken + 1 < old.setup.room) ⊎ (old.setup.room ≤ old.taken + 1)
           → contains_in kind old.newer hash ≡ false → Holds kind new (came ++ hash ∷ [])
-      room (inl spare) absent = filled new absent (did.fills absent spare) did.plan
-      room (inr full) absent = turned new absent (did.turns absent full) did.plan full
+      room (inl spare) absent = filled new absent (did.fills absent spare) did.setup
+      room (inr full) absent = turned new absent (did.turns absent full) did.setup full
 
       by : (b : Bool) → contains_in kind old.newer hash ≡ b → Holds kind new (came ++ hash ∷ [])
       by true is =
           subst (λ r. Holds kind r (came ++ hash ∷ [])) (sym (did.held is)) (held is)
-      by false absent = room (cases_lt (old.taken + 1) old.plan.room) absent
+      by false absent = room (cases_lt (old.taken + 1) old.setup.room) absent
 
 -- and then all of these
 holds-all : {S : Type 0} (kind : Kind) (old new : Rotating S) (came more : List ℕ)
@@ -196,7 +196,7 @@ holds-all kind old new came (hash ∷ more) holds all =
 -- a hash that came is contained while fewer different ones came behind it than each filter is for
 pub recent_found_law : (S : Type 0) (kind : Kind) (old new : Rotating S) (earlier later : List ℕ)
     (hash : ℕ) → ReceivesAll kind old (earlier ++ hash ∷ later) new
-    → count later < new.plan.room → either_contains kind new hash ≡ true
+    → count later < new.setup.room → either_contains kind new hash ≡ true
 recent_found_law S kind old new earlier later hash all few =
     (holds-all kind old new [] (earlier ++ hash ∷ later) (holds-none kind old) all).both
     earlier later hash

@@ -8,7 +8,7 @@ use Rattle.bloom_plain.proofs.CaseLemmas.{content-case}
 use Rattle.bloom_growing.specs.GrowingRates.{part_now, part_after}
 use Rattle.bloom_growing.specs.Kinds.{Plain}
 use Rattle.bloom_growing.specs.Rotating.{either_contains, IsRotating, IsUnused, Receives, ReceivesAll, both_now, both_taken}
-use Rattle.bloom_growing.proofs.Cases.{plan, for_one, number-first, with_one, with_five, with_none, inserts-one, rotating}
+use Rattle.bloom_growing.proofs.Cases.{setup, for_one, number-first, with_one, with_five, with_none, inserts-one, rotating}
 use Rattle.bloom_growing.proofs.RotatingLemmas.{rotating-none}
 
 -- a hash is contained that either filter has, and no other
@@ -18,14 +18,14 @@ contains : (either_contains Plain (rotating 3 with_one with_none 0 1) 1 ≡ true
 unfolding content chain are_in
 contains = (refl, refl, refl)
 
--- a filter that was just made has its plan, and neither took a hash nor turned over
-unused : IsUnused Plain plan (rotating 1 for_one for_one 0 0)
-    × (IsUnused Plain plan (rotating 2 for_one for_one 0 0) → ⊥)
-    × (IsUnused Plain plan (rotating 1 for_one for_one 1 0) → ⊥)
-    × (IsUnused Plain plan (rotating 1 for_one for_one 0 1) → ⊥)
+-- a filter that was just made has its setup, and neither took a hash nor turned over
+unused : IsUnused Plain setup (rotating 1 for_one for_one 0 0)
+    × (IsUnused Plain setup (rotating 2 for_one for_one 0 0) → ⊥)
+    × (IsUnused Plain setup (rotating 1 for_one for_one 1 0) → ⊥)
+    × (IsUnused Plain setup (rotating 1 for_one for_one 0 1) → ⊥)
 unused = (
-  record { plan = refl; older = number-first; newer = number-first; taken = refl; turns = refl },
-  λ is. let wrong : 2 ≡ 1 = ap (λ p. p.room) is.plan in omega (arith, wrong),
+  record { setup = refl; older = number-first; newer = number-first; taken = refl; turns = refl },
+  λ is. let wrong : 2 ≡ 1 = ap (λ p. p.room) is.setup in omega (arith, wrong),
   λ is. let wrong : 1 ≡ 0 = is.taken in omega (arith, wrong),
   λ is. let wrong : 1 ≡ 0 = is.turns in omega (arith, wrong),
 )
@@ -53,7 +53,7 @@ fills : Receives Plain (rotating 2 with_one with_none 0 4) 1 (rotating 2 with_on
 unfolding content chain are_in
 fills = record {
   answers = refl;
-  plan = refl;
+  setup = refl;
   held = λ held. let wrong : false ≡ true = held in cc;
   fills = λ _ _. record { older = refl; newer = inserts-one; taken = refl; turns = refl };
   turns = λ _ full. absurd (omega (arith, full));
@@ -79,7 +79,7 @@ turns : Receives Plain (rotating 1 with_five with_none 0 4) 1 (rotating 1 with_o
 unfolding content chain are_in
 turns = record {
   answers = refl;
-  plan = refl;
+  setup = refl;
   held = λ held. let wrong : false ≡ true = held in cc;
   fills = λ _ spare. absurd (omega (arith, spare));
   turns = λ _ _. record { older = inserts-one; newer = cleared; taken = refl; turns = refl };
@@ -99,7 +99,7 @@ turns-wrong = (
   λ did. let wrong : 4 ≡ 5 = (did.turns refl (lit≤ tt)).turns in omega (arith, wrong),
 )
 
--- a hash that the newer filter contains changes nothing, and the plan stays
+-- a hash that the newer filter contains changes nothing, and the setup stays
 held-wrong : (Receives Plain (rotating 3 with_five with_one 1 4) 1
     (rotating 3 with_five with_one 2 4) true → ⊥)
     × (Receives Plain (rotating 2 with_one with_none 0 4) 1 (rotating 3 with_one with_one 1 4) true
@@ -107,7 +107,7 @@ held-wrong : (Receives Plain (rotating 3 with_five with_one 1 4) 1
 unfolding content chain are_in
 held-wrong = (
   λ did. let wrong : 2 ≡ 1 = ap (λ r. r.taken) (did.held refl) in omega (arith, wrong),
-  λ did. let wrong : 3 ≡ 2 = ap (λ p. p.room) did.plan in omega (arith, wrong),
+  λ did. let wrong : 3 ≡ 2 = ap (λ p. p.room) did.setup in omega (arith, wrong),
 )
 
 -- a list is one insert after the other, and no list changes nothing

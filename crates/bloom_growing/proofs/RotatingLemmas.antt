@@ -8,7 +8,7 @@ use Rattle.bloom_parts.specs.Content.{content, AreWords, EqualWordsLaw}
 use Rattle.bloom_parts.specs.FalsePositives.{BoundsEither}
 use Rattle.bloom_parts.proofs.PublishedLemmas.{content-zeros}
 use Rattle.bloom_plain.specs.Filter.{Filter, Clears}
-use Rattle.bloom_growing.specs.Growing.{Plan, IsNumber, Took, rate_start, room_at}
+use Rattle.bloom_growing.specs.Growing.{Setup, IsNumber, Took, rate_start, room_at}
 use Rattle.bloom_growing.specs.GrowingRates.{Part, BoundsAny}
 use Rattle.bloom_growing.specs.Kinds.{Kind, InsertsIn}
 use Rattle.bloom_growing.specs.Rotating.{Rotating, older_taken, IsRotating}
@@ -17,13 +17,13 @@ use Rattle.bloom_growing.proofs.GrowingRateLemmas.{bounds-none, bounds-push}
 use Rattle.bloom_growing.proofs.KindLemmas.{made-zeros, new-hasher, new-shape}
 
 -- a filter that was cleared is the one that was made, as words have 64 bits
-cleared-made : {S : Type 0} (kind : Kind) (plan : Plan S) (count : ℕ) (old new : Filter S)
-    → EqualWordsLaw → AreWords new.words → (took : Took kind plan [] count old) → Clears old new
+cleared-made : {S : Type 0} (kind : Kind) (setup : Setup S) (count : ℕ) (old new : Filter S)
+    → EqualWordsLaw → AreWords new.words → (took : Took kind setup [] count old) → Clears old new
     → new ≡ took.made
-cleared-made kind plan count old new law fit took clears =
+cleared-made kind setup count old new law fit took clears =
     let made = took.made in
     let is = took.is_made in
-    let zeros = made-zeros kind (rate_start is.rate plan.hasher) (room_at plan.room 0) made
+    let zeros = made-zeros kind (rate_start is.rate setup.hasher) (room_at setup.room 0) made
     is.is_made in
     let shape = new-shape kind made took.hashes old took.did in
     let fit' : AreWords made.words =
@@ -37,12 +37,12 @@ cleared-made kind plan count old new law fit took clears =
     λ i. record { words = words i; hashes = hashes i; hasher = hasher i }
 
 -- so it took no hash
-took-cleared : {S : Type 0} (kind : Kind) (plan : Plan S) (count : ℕ) (old new : Filter S)
-    → EqualWordsLaw → AreWords new.words → Took kind plan [] count old → Clears old new
-    → Took kind plan [] 0 new
-took-cleared kind plan count old new law fit took clears =
-    subst (Took kind plan [] 0) (sym (cleared-made kind plan count old new law fit took clears))
-    (took-none kind plan [] took.made took.is_made)
+took-cleared : {S : Type 0} (kind : Kind) (setup : Setup S) (count : ℕ) (old new : Filter S)
+    → EqualWordsLaw → AreWords new.words → Took kind setup [] count old → Clears old new
+    → Took kind setup [] 0 new
+took-cleared kind setup count old new law fit took clears =
+    subst (Took kind setup [] 0) (sym (cleared-made kind setup count old new law fit took clears))
+    (took-none kind setup [] took.made took.is_made)
 
 -- after a turn the older filter took all that it is for
 all-taken : (turns room : ℕ) → 1 ≤ turns → (if nat_eq turns 0 then 0 else room) ≡ room
@@ -53,27 +53,27 @@ all-taken turns room some = by (nat_eq turns 0) refl
     by false is = ap (λ b. if b then 0 else room) is
 
 -- the filters as they were made keep the rule
-pub rotating-none : {S : Type 0} (kind : Kind) (r : Rotating S) → 1 ≤ r.plan.room
-    → IsNumber kind r.plan 0 r.older → IsNumber kind r.plan 0 r.newer → r.taken ≡ 0
+pub rotating-none : {S : Type 0} (kind : Kind) (r : Rotating S) → 1 ≤ r.setup.room
+    → IsNumber kind r.setup 0 r.older → IsNumber kind r.setup 0 r.newer → r.taken ≡ 0
     → r.turns ≡ 0 → IsRotating kind r
 rotating-none kind r some older newer taken turns = record {
   has_room = omega (arith, some, taken);
   older =
-      subst (λ n. Took kind r.plan [] (if nat_eq n 0 then 0 else r.plan.room) r.older) (sym turns)
-      (took-none kind r.plan [] r.older older);
-  newer = subst (λ n. Took kind r.plan [] n r.newer) (sym taken)
-      (took-none kind r.plan [] r.newer newer);
+      subst (λ n. Took kind r.setup [] (if nat_eq n 0 then 0 else r.setup.room) r.older) (sym turns)
+      (took-none kind r.setup [] r.older older);
+  newer = subst (λ n. Took kind r.setup [] n r.newer) (sym taken)
+      (took-none kind r.setup [] r.newer newer);
 }
 
 module _ {S : Type 0} (kind : Kind) (old : Rotating S) (is : IsRotating kind old) (hash : ℕ)
     (filled : Filter S) (did : InsertsIn kind old.newer hash filled false) where
-  one-more : Took kind old.plan [] (old.taken + 1) filled
-  one-more = took-next kind old.plan [] old.taken old.newer filled hash is.newer refl did
+  one-more : Took kind old.setup [] (old.taken + 1) filled
+  one-more = took-next kind old.setup [] old.taken old.newer filled hash is.newer refl did
 
   -- the newer filter took one more hash
-  pub rotating-filled : (taken : ℕ) → taken ≡ old.taken + 1 → old.taken + 1 < old.plan.room
+  pub rotating-filled : (taken : ℕ) → taken ≡ old.taken + 1 → old.taken + 1 < old.setup.room
       → IsRotating kind (record {
-        plan = old.plan;
+        setup = old.setup;
         older = old.older;
         newer = filled;
         taken = taken;
@@ -82,27 +82,27 @@ module _ {S : Type 0} (kind : Kind) (old : Rotating S) (is : IsRotating kind old
   rotating-filled taken next spare = record {
     has_room = omega (arith, next, spare);
     older = is.older;
-    newer = subst (λ n. Took kind old.plan [] n filled) (sym next) one-more;
+    newer = subst (λ n. Took kind old.setup [] n filled) (sym next) one-more;
   }
 
   -- it took the last one, and turned over
   pub rotating-turned : (cleared : Filter S) (turns : ℕ) → EqualWordsLaw
       → AreWords cleared.words → Clears old.older cleared → 1 ≤ turns
-      → old.plan.room ≤ old.taken + 1 → IsRotating kind (record {
-        plan = old.plan;
+      → old.setup.room ≤ old.taken + 1 → IsRotating kind (record {
+        setup = old.setup;
         older = filled;
         newer = cleared;
         taken = 0;
         turns = turns;
       })
   rotating-turned cleared turns law fit clears some full =
-      let all : old.taken + 1 ≡ (if nat_eq turns 0 then 0 else old.plan.room) =
-      omega (arith, is.has_room, full, all-taken turns old.plan.room some) in
+      let all : old.taken + 1 ≡ (if nat_eq turns 0 then 0 else old.setup.room) =
+      omega (arith, is.has_room, full, all-taken turns old.setup.room some) in
       record {
         has_room = omega (arith, is.has_room);
-        older = subst (λ n. Took kind old.plan [] n filled) all one-more;
+        older = subst (λ n. Took kind old.setup [] n filled) all one-more;
         newer =
-            took-cleared kind old.plan (older_taken old) old.older cleared law fit is.older clears;
+            took-cleared kind old.setup (older_taken old) old.older cleared law fit is.older clears;
       }
 
 -- the rates of two filters, one after the other, from nothing on

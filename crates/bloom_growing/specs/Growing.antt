@@ -15,19 +15,19 @@ use Rattle.bloom_growing.specs.Kinds.{Kind, contains_in, InsertsNew, IsMadeIn}
 -- what was asked for: a rate, which the rates that the filters are sized for stay below together,
 -- the room of the first filter, which is the number of items that it is made for, and the hasher of
 -- all
-pub record Plan (S : Type 0) : Type 0 where
+pub record Setup (S : Type 0) : Type 0 where
   pub rate : Rate
   pub room : ℕ
   pub hasher : S
 
--- the plan of these parts
-abbrev pub plan_of : {S : Type 0} → Rate → ℕ → S → Plan S
-plan_of rate room hasher = record { rate = rate; room = room; hasher = hasher }
+-- the setup of these parts
+abbrev pub setup_of : {S : Type 0} → Rate → ℕ → S → Setup S
+setup_of rate room hasher = record { rate = rate; room = room; hasher = hasher }
 
--- a filter that grows: its plan, its full filters, the oldest first, its newest filter, and how
+-- a filter that grows: its setup, its full filters, the oldest first, its newest filter, and how
 -- many new hashes that one took
 pub record Growing (S : Type 0) : Type 0 where
-  pub plan : Plan S
+  pub setup : Setup S
   pub older : List (Filter S)
   pub newest : Filter S
   pub taken : ℕ
@@ -43,19 +43,19 @@ den_at rate i = den_of rate * 2 ^ (i + 1)
 
 -- the room of the newest filter
 abbrev pub newest_room : {S : Type 0} → Growing S → ℕ
-newest_room g = room_at g.plan.room (length g.older)
+newest_room g = room_at g.setup.room (length g.older)
 
 -- the builder of a rate with this hasher
 abbrev pub rate_start : {S : Type 0} → Rate → S → RateStart S
 rate_start rate hasher = record { rate = rate; hasher = hasher }
 
 -- this is the filter that the builders of a kind make for number i
-pub record IsNumber {S : Type 0} (kind : Kind) (plan : Plan S) (i : ℕ) (made : Filter S) : Type 0
+pub record IsNumber {S : Type 0} (kind : Kind) (setup : Setup S) (i : ℕ) (made : Filter S) : Type 0
   where
     pub rate : Rate
-    pub num : num_of rate ≡ num_of plan.rate
-    pub den : den_of rate ≡ den_at plan.rate i
-    pub is_made : IsMadeIn kind (rate_start rate plan.hasher) (room_at plan.room i) made
+    pub num : num_of rate ≡ num_of setup.rate
+    pub den : den_of rate ≡ den_at setup.rate i
+    pub is_made : IsMadeIn kind (rate_start rate setup.hasher) (room_at setup.room i) made
 
 -- whether one of some filters contains a hash
 abbrev pub any_contains : {S : Type 0} → Kind → List (Filter S) → ℕ → Bool
@@ -67,10 +67,10 @@ has kind g hash = list_any (λ f. contains_in kind f hash) (g.older ++ g.newest 
 
 -- a filter was made as the next behind these older ones, and then took this many hashes. None of
 -- them was contained in it, or in an older one, when it came
-pub record Took {S : Type 0} (kind : Kind) (plan : Plan S) (older : List (Filter S)) (count : ℕ)
+pub record Took {S : Type 0} (kind : Kind) (setup : Setup S) (older : List (Filter S)) (count : ℕ)
     (filter : Filter S) : Type 0 where
   pub made : Filter S
-  pub is_made : IsNumber kind plan (length older) made
+  pub is_made : IsNumber kind setup (length older) made
   pub hashes : List ℕ
   pub counted : length hashes ≡ count
   pub new : All (λ hash. any_contains kind older hash ≡ false) hashes
@@ -78,17 +78,17 @@ pub record Took {S : Type 0} (kind : Kind) (plan : Plan S) (older : List (Filter
 
 -- each of these filters, which stand behind those before them, took as many hashes as its room
 abbrev pub AreFull :
-    {S : Type 0} → Kind → Plan S → List (Filter S) → List (Filter S) → Type 0
-AreFull kind plan before [] = ⊤
-AreFull kind plan before (f ∷ later) =
-    Took kind plan before (room_at plan.room (length before)) f
-    × AreFull kind plan (before ++ f ∷ []) later
+    {S : Type 0} → Kind → Setup S → List (Filter S) → List (Filter S) → Type 0
+AreFull kind setup before [] = ⊤
+AreFull kind setup before (f ∷ later) =
+    Took kind setup before (room_at setup.room (length before)) f
+    × AreFull kind setup (before ++ f ∷ []) later
 
 -- the rule of a filter that grows: all filters but the newest are full
 pub record IsGrown {S : Type 0} (kind : Kind) (g : Growing S) : Type 0 where
-  pub some_room : 1 ≤ g.plan.room
-  pub full : AreFull kind g.plan [] g.older
-  pub newest : Took kind g.plan g.older g.taken g.newest
+  pub some_room : 1 ≤ g.setup.room
+  pub full : AreFull kind g.setup [] g.older
+  pub newest : Took kind g.setup g.older g.taken g.newest
   pub most : g.taken ≤ newest_room g
 
 -- the default hasher has some key, and has taken in nothing
@@ -96,10 +96,10 @@ abbrev pub IsKeyed : CloneBuildHasher RandomDefaultHasher → Type 0
 IsKeyed hasher = (k0 : ℕ) × (k1 : ℕ) × HasKey hasher k0 k1
 
 -- what a filter that grows keeps: the rule, a key, and the rate and the room of its newest filter
-pub record IsKept (kind : Kind) (g : Growing (CloneBuildHasher RandomDefaultHasher)) (rate : Rate)
+pub record IsSound (kind : Kind) (g : Growing (CloneBuildHasher RandomDefaultHasher)) (rate : Rate)
     (room : ℕ) : Type 0 where
   pub grown : IsGrown kind g
-  pub key : IsKeyed g.plan.hasher
-  pub num : num_of rate ≡ num_of g.plan.rate
-  pub den : den_of rate ≡ den_at g.plan.rate (length g.older)
+  pub key : IsKeyed g.setup.hasher
+  pub num : num_of rate ≡ num_of g.setup.rate
+  pub den : den_of rate ≡ den_at g.setup.rate (length g.older)
   pub newest_is : room ≡ newest_room g

@@ -9,27 +9,27 @@ use Rattle.bloom_parts.specs.Rates.{num_of}
 use Rattle.bloom_plain.specs.Builders.{RefusesAs}
 use Rattle.bloom_growing.specs.declared.growing.error.GrowingError.{GrowingError}
 use Rattle.bloom_growing.specs.declared.growing.error.GrowingError.TheVariants.{RateOverflow, TooManyItems, Filter}
-use Rattle.bloom_growing.specs.Growing.{Plan, Growing, IsNumber, room_at, den_at, newest_room, has}
+use Rattle.bloom_growing.specs.Growing.{Setup, Growing, IsNumber, room_at, den_at, newest_room, has}
 use Rattle.bloom_growing.specs.Kinds.{Kind, InsertsIn, IsSizeIn, size_refusal_in}
 
 -- a filter that grows is new: this was asked for, and its one filter is empty
-pub record IsBegun {S : Type 0} (kind : Kind) (asked : Plan S) (g : Growing S) : Type 0 where
-  pub plan : g.plan ≡ asked
+pub record IsBegun {S : Type 0} (kind : Kind) (asked : Setup S) (g : Growing S) : Type 0 where
+  pub setup : g.setup ≡ asked
   pub older : g.older ≡ []
   pub newest : IsNumber kind asked 0 g.newest
   pub taken : g.taken ≡ 0
 
 -- the next filter was begun, and the newest one became an older one
-pub record Begins {S : Type 0} (kind : Kind) (old new : Growing S) : Type 0 where
-  pub plan : new.plan ≡ old.plan
+pub record BeginsNext {S : Type 0} (kind : Kind) (old new : Growing S) : Type 0 where
+  pub setup : new.setup ≡ old.setup
   pub older : new.older ≡ old.older ++ old.newest ∷ []
-  pub newest : IsNumber kind old.plan (length old.older + 1) new.newest
+  pub newest : IsNumber kind old.setup (length old.older + 1) new.newest
   pub taken : new.taken ≡ 0
 
 -- the newest filter took one more hash, which it didn't contain
 pub record Adds {S : Type 0} (kind : Kind) (old : Growing S) (hash : ℕ) (new : Growing S) : Type 0
   where
-    pub plan : new.plan ≡ old.plan
+    pub setup : new.setup ≡ old.setup
     pub older : new.older ≡ old.older
     pub newest : InsertsIn kind old.newest hash new.newest false
     pub taken : new.taken ≡ old.taken + 1
@@ -37,13 +37,13 @@ pub record Adds {S : Type 0} (kind : Kind) (old : Growing S) (hash : ℕ) (new :
 -- an insert took the old filters to the new: the reply is whether one of them contained the hash.
 -- If so nothing changed. Else the newest took it or, where that one was full, the next one, which
 -- was begun before
-pub record Takes {S : Type 0} (kind : Kind) (old : Growing S) (hash : ℕ) (new : Growing S)
+pub record Accepts {S : Type 0} (kind : Kind) (old : Growing S) (hash : ℕ) (new : Growing S)
     (reply : Bool) : Type 0 where
   pub answers : reply ≡ has kind old hash
   pub held : has kind old hash ≡ true → new ≡ old
   pub spare : has kind old hash ≡ false → old.taken < newest_room old → Adds kind old hash new
   pub full : has kind old hash ≡ false → newest_room old ≤ old.taken
-      → (next : Growing S) × Begins kind old next × Adds kind next hash new
+      → (next : Growing S) × BeginsNext kind old next × Adds kind next hash new
 
 -- what a filter that grows tells of what the builders tell of its next filter
 abbrev pub of_builders : Option FilterError → Option GrowingError
@@ -67,4 +67,4 @@ pub record RefusesInsert {S : Type 0} (kind : Kind) (g : Growing S) (hash : ℕ)
   pub held : has kind g hash ≡ true → error ≡ None
   pub spare : g.taken < newest_room g → error ≡ None
   pub full : has kind g hash ≡ false → newest_room g ≤ g.taken
-      → RefusesNumber kind g.plan.rate g.plan.room (length g.older + 1) error
+      → RefusesNumber kind g.setup.rate g.setup.room (length g.older + 1) error

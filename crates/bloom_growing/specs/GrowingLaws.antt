@@ -3,14 +3,14 @@ use Rattle.std.specs.Prelude.{◌≡◌, ℕ, zero, suc, ◌+◌, ◌*◌, ◌<�
 use Rattle.bloom_parts.specs.Rates.{num_of, den_of}
 use Rattle.bloom_parts.specs.declared.math.rate.Rate.{Rate}
 use Rattle.bloom_growing.specs.Growing.{Growing, den_at}
-use Rattle.bloom_growing.specs.GrowingInserts.{Takes}
+use Rattle.bloom_growing.specs.GrowingInserts.{Accepts}
 use Rattle.bloom_growing.specs.Kinds.{Kind}
 
 -- from old to new the hashes of a list came, in order
-abbrev pub TakesAll : {S : Type 0} → Kind → Growing S → List ℕ → Growing S → Type 0
-TakesAll kind old [] new = new ≡ old
-TakesAll {S} kind old (hash ∷ later) new = (next : Growing S) × (reply : Bool)
-    × Takes kind old hash next reply × TakesAll kind next later new
+abbrev pub AcceptsAll : {S : Type 0} → Kind → Growing S → List ℕ → Growing S → Type 0
+AcceptsAll kind old [] new = new ≡ old
+AcceptsAll {S} kind old (hash ∷ later) new = (next : Growing S) × (reply : Bool)
+    × Accepts kind old hash next reply × AcceptsAll kind next later new
 
 -- the sum of the rates that the first m filters are sized for, as a fraction: its upper and its
 -- lower part

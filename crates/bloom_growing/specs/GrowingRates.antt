@@ -78,4 +78,4 @@ parts_full room i (f ∷ later) = part_after f (room_at room i) ∷ parts_full r
 -- the mean rates of all filters, each after as many draws as it took new items, which set more
 -- bits
 abbrev pub parts_grown : {S : Type 0} → Growing S → List Part
-parts_grown g = parts_full g.plan.room 0 g.older ++ part_after g.newest g.taken ∷ []
+parts_grown g = parts_full g.setup.room 0 g.older ++ part_after g.newest g.taken ∷ []

@@ -3,7 +3,7 @@
 -- "Aging Bloom Filter with Two Active Buffers for Dynamic Sets", 2010.
 use Rattle.std.specs.Prelude.{◌≡◌, ℕ, ◌+◌, ◌-◌, ◌^◌, ◌<◌, ◌≤◌, min, Bool, true, false, ◌||◌, List, [], ◌∷◌, nat_eq, if◌then◌else◌}
 use Rattle.bloom_plain.specs.Filter.{Filter, Clears}
-use Rattle.bloom_growing.specs.Growing.{Plan, IsNumber, Took}
+use Rattle.bloom_growing.specs.Growing.{Setup, IsNumber, Took}
 use Rattle.bloom_growing.specs.GrowingRates.{Part, part_now, part_after}
 use Rattle.bloom_growing.specs.Kinds.{Kind, contains_in, InsertsIn}
 
@@ -11,7 +11,7 @@ use Rattle.bloom_growing.specs.Kinds.{Kind, contains_in, InsertsIn}
 -- that each is for, and the hasher), its two filters, how many new hashes the newer one took, and
 -- how often it turned over
 pub record Rotating (S : Type 0) : Type 0 where
-  pub plan : Plan S
+  pub setup : Setup S
   pub older : Filter S
   pub newer : Filter S
   pub taken : ℕ
@@ -19,7 +19,7 @@ pub record Rotating (S : Type 0) : Type 0 where
 
 -- how many new hashes the older filter took before it became the older: none before the first turn
 abbrev pub older_taken : {S : Type 0} → Rotating S → ℕ
-older_taken r = if nat_eq r.turns 0 then 0 else r.plan.room
+older_taken r = if nat_eq r.turns 0 then 0 else r.setup.room
 
 -- whether one of both filters contains a hash
 abbrev pub either_contains : {S : Type 0} → Kind → Rotating S → ℕ → Bool
@@ -29,13 +29,13 @@ either_contains kind r hash = contains_in kind r.newer hash || contains_in kind 
 -- for these items at half the rate, with hashes inserted, each of which it didn't contain when it
 -- came
 pub record IsRotating {S : Type 0} (kind : Kind) (r : Rotating S) : Type 0 where
-  pub has_room : r.taken < r.plan.room
-  pub older : Took kind r.plan [] (older_taken r) r.older
-  pub newer : Took kind r.plan [] r.taken r.newer
+  pub has_room : r.taken < r.setup.room
+  pub older : Took kind r.setup [] (older_taken r) r.older
+  pub newer : Took kind r.setup [] r.taken r.newer
 
 -- a filter that rotates is new: this was asked for, and both filters are empty
-pub record IsUnused {S : Type 0} (kind : Kind) (asked : Plan S) (r : Rotating S) : Type 0 where
-  pub plan : r.plan ≡ asked
+pub record IsUnused {S : Type 0} (kind : Kind) (asked : Setup S) (r : Rotating S) : Type 0 where
+  pub setup : r.setup ≡ asked
   pub older : IsNumber kind asked 0 r.older
   pub newer : IsNumber kind asked 0 r.newer
   pub taken : r.taken ≡ 0
@@ -64,11 +64,11 @@ pub record Turns {S : Type 0} (kind : Kind) (old : Rotating S) (hash : ℕ) (new
 pub record Receives {S : Type 0} (kind : Kind) (old : Rotating S) (hash : ℕ) (new : Rotating S)
     (reply : Bool) : Type 0 where
   pub answers : reply ≡ either_contains kind old hash
-  pub plan : new.plan ≡ old.plan
+  pub setup : new.setup ≡ old.setup
   pub held : contains_in kind old.newer hash ≡ true → new ≡ old
-  pub fills : contains_in kind old.newer hash ≡ false → old.taken + 1 < old.plan.room
+  pub fills : contains_in kind old.newer hash ≡ false → old.taken + 1 < old.setup.room
       → Fills kind old hash new
-  pub turns : contains_in kind old.newer hash ≡ false → old.plan.room ≤ old.taken + 1
+  pub turns : contains_in kind old.newer hash ≡ false → old.setup.room ≤ old.taken + 1
       → Turns kind old hash new
 
 -- from old to new the hashes of a list came, in order

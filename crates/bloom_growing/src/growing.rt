@@ -4,8 +4,8 @@ ghost use Rattle.std.specs.Prelude.{◌≡◌, ℕ, ◌+◌, ◌<◌, ◌≤◌,
 ghost use Rattle.std.specs.Result.{result_err};
 ghost use Rattle.std.specs.Int.{w128, to_be_bytes};
 ghost use Rattle.bloom_parts.specs.Keys.{HasKey, key_low, key_high};
-ghost use Rattle.bloom_growing.specs.Growing.{plan_of, IsKeyed, any_contains, has, newest_room};
-ghost use Rattle.bloom_growing.specs.GrowingInserts.{IsBegun, Begins, Adds, Takes, RefusesNumber, RefusesInsert};
+ghost use Rattle.bloom_growing.specs.Growing.{setup_of, IsKeyed, any_contains, has, newest_room};
+ghost use Rattle.bloom_growing.specs.GrowingInserts.{IsBegun, BeginsNext, Adds, Accepts, RefusesNumber, RefusesInsert};
 ghost use Rattle.bloom_growing.specs.Kinds.{contains_in};
 
 mod error;
@@ -57,19 +57,19 @@ impl<F: GrowableFilter> Model for GrowingFilterOf<F> {
     ghost use Rattle.std.specs.Prelude.{map};
     ghost use Rattle.bloom_parts.specs.declared.hasher.CloneBuildHasher.{CloneBuildHasher};
     ghost use Rattle.bloom_parts.specs.declared.hasher.sip.RandomDefaultHasher.{RandomDefaultHasher};
-    ghost use Rattle.bloom_growing.specs.Growing.{Growing, plan_of, IsKept};
+    ghost use Rattle.bloom_growing.specs.Growing.{Growing, setup_of, IsSound};
 
     ghost Value = { Growing (CloneBuildHasher RandomDefaultHasher) };
 
     ghost view = { λ g. record {
-      plan = plan_of g.rate g.items g.hasher;
+      setup = setup_of g.rate g.items g.hasher;
       older = map F.seen g.older.items;
       newest = F.seen g.newest;
       taken = g.taken;
     } };
 
-    ghost invariant = { λ g. IsKept F.kind (record {
-      plan = plan_of g.rate g.items g.hasher;
+    ghost invariant = { λ g. IsSound F.kind (record {
+      setup = setup_of g.rate g.items g.hasher;
       older = map F.seen g.older.items;
       newest = F.seen g.newest;
       taken = g.taken;
@@ -89,8 +89,8 @@ impl<F: GrowableFilter> GrowingFilterOf<F> {
     /// Those of `insert_hash`.
     pub fn new(alloc: Global, rate: Rate, items: usize) -> Result<Self, GrowingError>
         ensures begun { IfOk result
-            (λ g. IsBegun F.kind (plan_of rate (max 1 items) g.plan.hasher) g) }
-        ensures key { IfOk result (λ g. HasKey g.plan.hasher 0 0) }
+            (λ g. IsBegun F.kind (setup_of rate (max 1 items) g.setup.hasher) g) }
+        ensures key { IfOk result (λ g. HasKey g.setup.hasher 0 0) }
         ensures refused { RefusesNumber F.kind rate (max 1 items) 0 (result_err result) }
     {
         GrowingFilterOf::with_hasher(alloc, rate, items, DefaultHasher::default())
@@ -107,9 +107,9 @@ impl<F: GrowableFilter> GrowingFilterOf<F> {
         seed: &u128,
     ) -> Result<Self, GrowingError>
         ensures begun { IfOk result
-            (λ g. IsBegun F.kind (plan_of rate (max 1 items) g.plan.hasher) g) }
+            (λ g. IsBegun F.kind (setup_of rate (max 1 items) g.setup.hasher) g) }
         ensures key { let bytes = to_be_bytes w128 seed.now in
-            IfOk result (λ g. HasKey g.plan.hasher (key_low bytes) (key_high bytes)) }
+            IfOk result (λ g. HasKey g.setup.hasher (key_low bytes) (key_high bytes)) }
         ensures refused { RefusesNumber F.kind rate (max 1 items) 0 (result_err result) }
     {
         let hasher = DefaultHasher::seeded(&seed.to_be_bytes());
@@ -124,7 +124,7 @@ impl<F: GrowableFilter> GrowingFilterOf<F> {
         hasher: DefaultHasher,
     ) -> Result<Self, GrowingError>
         requires { IsKeyed hasher }
-        ensures begun { IfOk result (λ g. IsBegun F.kind (plan_of rate (max 1 items) hasher) g) }
+        ensures begun { IfOk result (λ g. IsBegun F.kind (setup_of rate (max 1 items) hasher) g) }
         ensures refused { RefusesNumber F.kind rate (max 1 items) 0 (result_err result) }
     {
         let newest_rate = half(rate)?;
@@ -145,12 +145,12 @@ impl<F: GrowableFilter> GrowingFilterOf<F> {
     // Begins the next filter, and calls the newest one older.
     fn begin(&mut self, alloc: Global) -> Result<(), GrowingError>
         requires full { newest_room self.old ≤ self.old.taken }
-        ensures begins { IfOk result (λ _. Begins F.kind self.old self.new) }
+        ensures begins { IfOk result (λ _. BeginsNext F.kind self.old self.new) }
         ensures new { IfOk result
             (λ _. (hash : ℕ) → contains_in F.kind self.new.newest hash ≡ false) }
         ensures room { IfOk result (λ _. self.new.taken < newest_room self.new) }
         ensures unchanged { OnErr result (self.new ≡ self.old) }
-        ensures refused { RefusesNumber F.kind self.old.plan.rate self.old.plan.room
+        ensures refused { RefusesNumber F.kind self.old.setup.rate self.old.setup.room
             (length self.old.older + 1) (result_err result) }
     {
         let rate = half(self.newest_rate)?;
@@ -193,7 +193,7 @@ impl<F: GrowableFilter> GrowingFilterOf<F> {
     /// or more, `TooManyWords` for 2^58 words or more, and `Memory`.
     #[inline]
     pub fn insert_hash(&mut self, alloc: Global, hash: u64) -> Result<bool, GrowingError>
-        ensures takes { IfOk result (λ reply. Takes F.kind self.old hash self.new reply) }
+        ensures takes { IfOk result (λ reply. Accepts F.kind self.old hash self.new reply) }
         ensures unchanged { OnErr result (self.new ≡ self.old) }
         ensures refused { RefusesInsert F.kind self.old hash (result_err result) }
     {
@@ -210,7 +210,7 @@ impl<F: GrowableFilter> GrowingFilterOf<F> {
     fn insert_past(&mut self, alloc: Global, hash: u64) -> Result<bool, GrowingError>
         requires new { any_contains F.kind self.old.older hash ≡ false }
         requires full { newest_room self.old ≤ self.old.taken }
-        ensures takes { IfOk result (λ reply. Takes F.kind self.old hash self.new reply) }
+        ensures takes { IfOk result (λ reply. Accepts F.kind self.old hash self.new reply) }
         ensures unchanged { OnErr result (self.new ≡ self.old) }
         ensures refused { RefusesInsert F.kind self.old hash (result_err result) }
     {

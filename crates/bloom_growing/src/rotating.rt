@@ -4,7 +4,7 @@ ghost use Rattle.std.specs.Prelude.{◌≡◌, ℕ, max, IfOk};
 ghost use Rattle.std.specs.Result.{result_err};
 ghost use Rattle.std.specs.Int.{w128, to_be_bytes};
 ghost use Rattle.bloom_parts.specs.Keys.{HasKey, key_low, key_high};
-ghost use Rattle.bloom_growing.specs.Growing.{plan_of, IsKeyed};
+ghost use Rattle.bloom_growing.specs.Growing.{setup_of, IsKeyed};
 ghost use Rattle.bloom_growing.specs.GrowingInserts.{RefusesNumber};
 ghost use Rattle.bloom_growing.specs.Rotating.{either_contains, IsUnused, Receives};
 
@@ -50,13 +50,13 @@ pub type RotatingBlockedFilter = RotatingFilterOf<BlockedBloomFilter>;
 impl<F: GrowableFilter> Model for RotatingFilterOf<F> {
     ghost use Rattle.bloom_parts.specs.declared.hasher.CloneBuildHasher.{CloneBuildHasher};
     ghost use Rattle.bloom_parts.specs.declared.hasher.sip.RandomDefaultHasher.{RandomDefaultHasher};
-    ghost use Rattle.bloom_growing.specs.Growing.{plan_of};
+    ghost use Rattle.bloom_growing.specs.Growing.{setup_of};
     ghost use Rattle.bloom_growing.specs.Rotating.{Rotating, IsRotating};
 
     ghost Value = { Rotating (CloneBuildHasher RandomDefaultHasher) };
 
     ghost view = { λ r. record {
-      plan = plan_of r.rate r.room r.hasher;
+      setup = setup_of r.rate r.room r.hasher;
       older = F.seen r.older;
       newer = F.seen r.newer;
       taken = r.taken;
@@ -64,7 +64,7 @@ impl<F: GrowableFilter> Model for RotatingFilterOf<F> {
     } };
 
     ghost invariant = { λ r. IsRotating F.kind (record {
-      plan = plan_of r.rate r.room r.hasher;
+      setup = setup_of r.rate r.room r.hasher;
       older = F.seen r.older;
       newer = F.seen r.newer;
       taken = r.taken;
@@ -87,8 +87,8 @@ impl<F: GrowableFilter> RotatingFilterOf<F> {
     /// for 2^58 words or more, and `Memory`.
     pub fn new(alloc: Global, rate: Rate, items: usize) -> Result<Self, GrowingError>
         ensures unused { IfOk result
-            (λ r. IsUnused F.kind (plan_of rate (max 1 items) r.plan.hasher) r) }
-        ensures key { IfOk result (λ r. HasKey r.plan.hasher 0 0) }
+            (λ r. IsUnused F.kind (setup_of rate (max 1 items) r.setup.hasher) r) }
+        ensures key { IfOk result (λ r. HasKey r.setup.hasher 0 0) }
         ensures refused { RefusesNumber F.kind rate (max 1 items) 0 (result_err result) }
     {
         RotatingFilterOf::with_hasher(alloc, rate, items, DefaultHasher::default())
@@ -105,9 +105,9 @@ impl<F: GrowableFilter> RotatingFilterOf<F> {
         seed: &u128,
     ) -> Result<Self, GrowingError>
         ensures unused { IfOk result
-            (λ r. IsUnused F.kind (plan_of rate (max 1 items) r.plan.hasher) r) }
+            (λ r. IsUnused F.kind (setup_of rate (max 1 items) r.setup.hasher) r) }
         ensures key { let bytes = to_be_bytes w128 seed.now in
-            IfOk result (λ r. HasKey r.plan.hasher (key_low bytes) (key_high bytes)) }
+            IfOk result (λ r. HasKey r.setup.hasher (key_low bytes) (key_high bytes)) }
         ensures refused { RefusesNumber F.kind rate (max 1 items) 0 (result_err result) }
     {
         let hasher = DefaultHasher::seeded(&seed.to_be_bytes());
@@ -122,7 +122,7 @@ impl<F: GrowableFilter> RotatingFilterOf<F> {
         hasher: DefaultHasher,
     ) -> Result<Self, GrowingError>
         requires { IsKeyed hasher }
-        ensures unused { IfOk result (λ r. IsUnused F.kind (plan_of rate (max 1 items) hasher) r) }
+        ensures unused { IfOk result (λ r. IsUnused F.kind (setup_of rate (max 1 items) hasher) r) }
         ensures refused { RefusesNumber F.kind rate (max 1 items) 0 (result_err result) }
     {
         let half_rate = half(rate)?;

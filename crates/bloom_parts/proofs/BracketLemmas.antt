@@ -12,7 +12,7 @@ use Rattle.bloom_parts.proofs.RoundingLemmas.{div_ceil-le}
 use Rattle.bloom_parts.proofs.PowerWidths.{AreApart}
 
 -- the ends of the share of bits that stays clear when one of b is set
-pub record IsKept (b low high : ℕ) : Type 0 where
+pub record AreClearEnds (b low high : ℕ) : Type 0 where
   pub below : low * b ≤ 2 ^ 63 * (b - 1)
   pub above : 2 ^ 63 * (b - 1) ≤ high * b
   pub low_fits : low ≤ 2 ^ 63
@@ -21,7 +21,7 @@ pub record IsKept (b low high : ℕ) : Type 0 where
   pub near : high ≤ low + 1
 
 -- the share that stays clear, rounded either way, has these ends
-kept-ends : (b : ℕ) → 0 < b → IsKept b (2 ^ 63 * (b - 1) / b) (div_ceil (2 ^ 63 * (b - 1)) b)
+kept-ends : (b : ℕ) → 0 < b → AreClearEnds b (2 ^ 63 * (b - 1) / b) (div_ceil (2 ^ 63 * (b - 1)) b)
 kept-ends b some =
     let x : ℕ = 2 ^ 63 * (b - 1) in record {
       below = div-mul-le_self x b;

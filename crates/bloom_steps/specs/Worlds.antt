@@ -10,8 +10,8 @@ use Rattle.bloom_steps.specs.Standing.{StandsAt}
 use Rattle.bloom_steps.specs.Courses.{CallAfterCall, FindsWhatIsThere, Gives, call_records, records_of}
 
 -- whole calls of a party, one after the other: call after call may come behind them
-abbrev pub AreWhole : ℕ → ℕ → ℕ → List Record → Type 0
-AreWhole w k party earlier = (later : List Record)
+abbrev pub AreWholeCalls : ℕ → ℕ → ℕ → List Record → Type 0
+AreWholeCalls w k party earlier = (later : List Record)
     → CallAfterCall w k party later → CallAfterCall w k party (earlier ++ later)
 
 -- a machine stands where the steps of its party's newest call leave it
@@ -19,7 +19,7 @@ pub record HasCalled (w k party : ℕ) (m : Machine) (records : List Record) : T
   pub earlier : List Record
   pub call : Call
   pub taken : List Taken
-  pub before : AreWhole w k party earlier
+  pub before : AreWholeCalls w k party earlier
   pub stands : StandsAt m w k call taken
   pub same : records ≡ earlier ++ call_records party call taken
 

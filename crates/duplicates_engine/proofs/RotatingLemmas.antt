@@ -83,10 +83,10 @@ module _ (hash_of : List ℕ → ℕ) where
   pub tells-new : {S : Type 0} (kind : Kind) (start r : Rotating S) (line : List ℕ) (reply : Bool)
       → ((kind : Kind) (old new : Rotating S) (earlier later : List ℕ) (hash : ℕ)
       → ReceivesAll kind old (earlier ++ hash ∷ later) new
-      → distinct_count nat_eq later < new.plan.room → either_contains kind new hash ≡ true)
+      → distinct_count nat_eq later < new.setup.room → either_contains kind new hash ≡ true)
       → reply ≡ either_contains kind r (hash_of line) → reply ≡ false
       → (lines : List (List ℕ)) → ReceivesAll kind start (map hash_of lines) r
-      → IsNew (Some r.plan.room) lines line
+      → IsNew (Some r.setup.room) lines line
   tells-new kind start r line reply law answers is lines came front behind other cut few same =
       let found : either_contains kind r (hash_of other) ≡ true =
       law kind start r (map hash_of front) (map hash_of behind) (hash_of other)
@@ -108,16 +108,16 @@ receives-next kind start old new (h ∷ hashes) hash reply all did =
 -- one more line came
 pub recalls-more : {S : Type 0} (kind : Kind) (hash_of : S → List ℕ → ℕ) (old new : Rotating S)
     (lines : List (List ℕ)) (line : List ℕ) (reply : Bool)
-    → Receives kind old (hash_of old.plan.hasher line) new reply
-    → (start : Rotating S) × ReceivesAll kind start (map (hash_of old.plan.hasher) lines) old
+    → Receives kind old (hash_of old.setup.hasher line) new reply
+    → (start : Rotating S) × ReceivesAll kind start (map (hash_of old.setup.hasher) lines) old
     → (start : Rotating S)
-    × ReceivesAll kind start (map (hash_of new.plan.hasher) (lines ++ line ∷ [])) new
+    × ReceivesAll kind start (map (hash_of new.setup.hasher) (lines ++ line ∷ [])) new
 recalls-more kind hash_of old new lines line reply did came = (
   came.0,
   subst (λ p. ReceivesAll kind came.0 (map (hash_of p.hasher) (lines ++ line ∷ [])) new)
-      (sym did.plan)
+      (sym did.setup)
       (subst (λ l. ReceivesAll kind came.0 l new)
-      (sym (map-append (hash_of old.plan.hasher) lines (line ∷ [])))
-      (receives-next kind came.0 old new (map (hash_of old.plan.hasher) lines)
-      (hash_of old.plan.hasher line) reply came.1 did)),
+      (sym (map-append (hash_of old.setup.hasher) lines (line ∷ [])))
+      (receives-next kind came.0 old new (map (hash_of old.setup.hasher) lines)
+      (hash_of old.setup.hasher line) reply came.1 did)),
 )

@@ -10,9 +10,9 @@ module _ {S H : Type 0} (kind : Kind) (h : hasher.Ghosts H) (build : S → H) wh
   abbrev pub rotating_recalls : Rotating S → List (List ℕ) → Type 0
   rotating_recalls r lines =
       (start : Rotating S)
-      × ReceivesAll kind start (map (line_hash h (build r.plan.hasher)) lines) r
+      × ReceivesAll kind start (map (line_hash h (build r.setup.hasher)) lines) r
 
   -- the hash of one line came, with this reply
   abbrev pub rotating_receives : Rotating S → List ℕ → Bool → Rotating S → Type 0
   rotating_receives old line reply new =
-      Receives kind old (line_hash h (build old.plan.hasher) line) new reply
+      Receives kind old (line_hash h (build old.setup.hasher) line) new reply

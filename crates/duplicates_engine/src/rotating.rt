@@ -12,7 +12,7 @@ use std::hash::{BuildHasher, Hasher};
 
 /// A line stands in a filter that rotates by the hash of its bytes.
 impl<F: GrowableFilter> Sieve for RotatingFilterOf<F> {
-    ghost span = { λ r. Some r.plan.room };
+    ghost span = { λ r. Some r.setup.room };
 
     ghost recalls = { rotating_recalls F.kind ⟦<RandomDefaultHasher as Hasher>⟧
         ⟦<DefaultHasher as BuildHasher>⟧.build_hasher };
@@ -24,7 +24,7 @@ impl<F: GrowableFilter> Sieve for RotatingFilterOf<F> {
     ghost refuses = { λ _ _ _. ⊥ };
 
     ghost has_hash = { λ r. IsLineHash ⟦<RandomDefaultHasher as Hasher>⟧
-        ⟦<DefaultHasher as BuildHasher>⟧.build_hasher r.plan.hasher };
+        ⟦<DefaultHasher as BuildHasher>⟧.build_hasher r.setup.hasher };
 
     fn hash_of(&self, line: &[u8]) -> u64 {
         self.source_hash(&Text(line))

@@ -1,5 +1,5 @@
 pub mod Calls
-pub mod Fills
+pub mod Puts
 pub mod Laws
 pub mod Meets
 pub mod Opening

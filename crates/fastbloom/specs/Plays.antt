@@ -75,7 +75,7 @@ pub record IsFirst (v : Sets) : Type 0 where
   pub some : 1 ≤ v.passes
 
 -- from old to new the first seat made the start these words
-pub record Fills (old new : FilterSeat) (words : List ℕ) : Type 0 where
+pub record Puts (old new : FilterSeat) (words : List ℕ) : Type 0 where
   pub table : new.table_id ≡ old.table_id
   pub first : IsFirst new.me.0
   pub passes : new.me.0.passes ≡ old.me.0.passes

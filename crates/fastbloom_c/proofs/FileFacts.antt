@@ -1,17 +1,17 @@
 -- The heads that C gives, and the numbers of their refusals, at values from outside.
 use Rattle.std.proofs.Common.{◌≡◌, ◌^◌, ◌+◌, ◌-◌, ℕ, List, [], ◌∷◌, ◌++◌, replicate, Some, None, refl}
 use Rattle.bloom_files.specs.declared.error.FileError.TheVariants.{NotAFilter, EmptyWords, TooManyWords, PartOfALine}
-use Rattle.fastbloom_c.specs.Files.{head_for, line_words_refusal, words_refusal, file_code_or_zero}
+use Rattle.fastbloom_c.specs.Files.{head_for, line_words_refusal, head_words_refusal, file_code_or_zero}
 
 -- a refusal has the number of the header, and 0 stands for none
 number-code : (file_code_or_zero None ≡ 0) × (file_code_or_zero (Some NotAFilter) ≡ 9)
 number-code = (refl, refl)
 
 -- from one word to 2^58 - 1 aren't refused
-words-refused : (words_refusal 0 ≡ Some EmptyWords)
-    × (words_refusal 1 ≡ None)
-    × (words_refusal (2 ^ 58 - 1) ≡ None)
-    × (words_refusal (2 ^ 58) ≡ Some TooManyWords)
+words-refused : (head_words_refusal 0 ≡ Some EmptyWords)
+    × (head_words_refusal 1 ≡ None)
+    × (head_words_refusal (2 ^ 58 - 1) ≡ None)
+    × (head_words_refusal (2 ^ 58) ≡ Some TooManyWords)
 words-refused = (refl, refl, refl, refl)
 
 -- whole lines aren't refused, from one to 2^58 - 8 words; too many words are told before a part of

@@ -12,7 +12,7 @@ use Rattle.bloom_parts.specs.Powers.{rounded_power}
 use Rattle.bloom_parts.specs.declared.math.bracket.Bracket.{Bracket}
 use Rattle.bloom_parts.specs.declared.math.estimate.Estimate.{Estimate}
 use Rattle.bloom_steps.specs.Loaded.{CountsLoaded}
-use Rattle.fastbloom_c.specs.Estimates.{Tells, TellsPart, ones_of, ones_of_either}
+use Rattle.fastbloom_c.specs.Estimates.{Tells, TellsPart, ones_of_words, ones_of_either_words}
 use Rattle.fastbloom_c.specs.Rates.{HoldRate}
 use Rattle.fastbloom_c.specs.SharedRates.{BoundsWords, EstimatesWords}
 
@@ -74,12 +74,12 @@ tells_part-ends = (
 )
 
 -- the bits of all words are counted
-ones-words : ones_of (5 ∷ 2 ^ 63 ∷ []) ≡ 3
+ones-words : ones_of_words (5 ∷ 2 ^ 63 ∷ []) ≡ 3
 unfolding content count_on
 ones-words = refl
 
 -- a bit that both have counts once
-ones-either : ones_of_either (3 ∷ 1 ∷ []) (6 ∷ 1 ∷ []) ≡ 4
+ones-either : ones_of_either_words (3 ∷ 1 ∷ []) (6 ∷ 1 ∷ []) ≡ 4
 unfolding content count_on
 ones-either = refl
 

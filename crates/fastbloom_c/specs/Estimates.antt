@@ -8,12 +8,12 @@ use Rattle.bloom_parts.specs.declared.math.bracket.Bracket.{Bracket}
 use Rattle.bloom_parts.specs.declared.math.estimate.Estimate.{Estimate}
 
 -- how many bits of these words are set
-abbrev pub ones_of : List ℕ → ℕ
-ones_of words = count_on (content words) (64 * length words)
+abbrev pub ones_of_words : List ℕ → ℕ
+ones_of_words words = count_on (content words) (64 * length words)
 
 -- how many bits are set in either of two lists of words
-abbrev pub ones_of_either : List ℕ → List ℕ → ℕ
-ones_of_either words other =
+abbrev pub ones_of_either_words : List ℕ → List ℕ → ℕ
+ones_of_either_words words other =
     count_on (λ p. content words p || content other p) (64 * length words)
 
 -- two numbers are the bounds of an estimate of which something holds, and the greatest number of 64

@@ -17,8 +17,8 @@ head_for num_words num_hashes key = record {
 }
 
 -- why a head with this many words is refused, if it is
-abbrev pub words_refusal : ℕ → Option FileError
-words_refusal num_words =
+abbrev pub head_words_refusal : ℕ → Option FileError
+head_words_refusal num_words =
     if nat_eq num_words 0 then Some EmptyWords
     else if nat_le (2 ^ 58) num_words then Some TooManyWords
     else None

@@ -2,8 +2,8 @@
 ghost use Rattle.std.specs.Prelude.{◌≡◌, ◌↔◌, ◌*◌, ◌^◌, ◌<◌, ◌≤◌, false, IsTrue, length, max};
 ghost use Rattle.bloom_parts.specs.Brackets.{rate_low};
 ghost use Rattle.bloom_parts.specs.FalsePositives.{HoldsFalsePositives, false_pos_high, BoundsPositives};
-ghost use Rattle.fastbloom_c.specs.Estimates.{TellsPart, ones_of};
-ghost use Rattle.fastbloom_c.specs.Files.{words_refusal, file_code_or_zero};
+ghost use Rattle.fastbloom_c.specs.Estimates.{TellsPart, ones_of_words};
+ghost use Rattle.fastbloom_c.specs.Files.{head_words_refusal, file_code_or_zero};
 
 use crate::estimates::are_words;
 use bloom_files::FileError;
@@ -25,7 +25,7 @@ pub extern "C" fn fastbloom_rate_bounds(
     low: &mut u64,
     high: &mut u64,
 ) -> u8
-    ensures code { result ≡ file_code_or_zero (words_refusal num_words) }
+    ensures code { result ≡ file_code_or_zero (head_words_refusal num_words) }
     ensures bounds { result ≡ 0 → TellsPart (λ bracket. HoldsFalsePositives bracket (64 * num_words)
         (max 1 num_hashes * items) (max 1 num_hashes)) low.new high.new }
     // The bounds are exactly these.
@@ -55,7 +55,7 @@ pub extern "C" fn fastbloom_rate_bounds(
 fn rate_of(words: &[u64], num_hashes: u32) -> Bracket
     requires words { 1 ≤ length words.now }
     requires few { length words.now < 2 ^ 58 }
-    ensures { BoundsPositives (64 * length words.now) num_hashes (ones_of words.now) result }
+    ensures { BoundsPositives (64 * length words.now) num_hashes (ones_of_words words.now) result }
 {
     false_pos_of_ones(num_hashes, 64 * words.len(), slices::count_ones(words))
 }
@@ -74,7 +74,7 @@ pub extern "C" fn fastbloom_rate_now(
 ) -> bool
     ensures done { IsTrue result ↔ ((1 ≤ length words.now) × (length words.now < 2 ^ 58)) }
     ensures bounds { IsTrue result → TellsPart
-        (BoundsPositives (64 * length words.now) (max 1 num_hashes) (ones_of words.now))
+        (BoundsPositives (64 * length words.now) (max 1 num_hashes) (ones_of_words words.now))
         low.new high.new }
     // A refusal tells nothing.
     ensures refused_low { result ≡ false → low.new ≡ 0 }

@@ -2,7 +2,7 @@
 ghost use Rattle.std.specs.Prelude.{◌≡◌, ◌↔◌, ◌-◌, ◌*◌, ◌^◌, ◌<◌, ◌≤◌, false, IsTrue, length, max, unwrap_or};
 ghost use Rattle.bloom_parts.specs.Alike.{EstimatesCommon, EstimatesLikeness};
 ghost use Rattle.bloom_parts.specs.Estimates.{EstimatesItems, least_of, most_of};
-ghost use Rattle.fastbloom_c.specs.Estimates.{Tells, TellsPart, ones_of, ones_of_either};
+ghost use Rattle.fastbloom_c.specs.Estimates.{Tells, TellsPart, ones_of_words, ones_of_either_words};
 
 use bloom_parts::bit_vector::MAX_WORDS;
 use bloom_parts::math::{Bracket, Estimate, estimated_common, estimated_items, estimated_part};
@@ -37,7 +37,7 @@ fn items_in(words: &[u64], num_hashes: u32) -> Estimate
     requires words { 1 ≤ length words.now }
     requires few { length words.now < 2 ^ 58 }
     requires hashes { 1 ≤ num_hashes }
-    ensures { EstimatesItems (64 * length words.now) num_hashes (ones_of words.now) result }
+    ensures { EstimatesItems (64 * length words.now) num_hashes (ones_of_words words.now) result }
 {
     estimated_items(num_hashes, 64 * words.len(), slices::count_ones(words))
 }
@@ -49,7 +49,7 @@ fn items_in_either(words: &[u64], other: &[u64], num_hashes: u32) -> Estimate
     requires lengths { length words.now ≡ length other.now }
     requires hashes { 1 ≤ num_hashes }
     ensures { EstimatesItems (64 * length words.now) num_hashes
-        (ones_of_either words.now other.now) result }
+        (ones_of_either_words words.now other.now) result }
 {
     estimated_items(
         num_hashes,
@@ -64,8 +64,8 @@ fn items_in_both(words: &[u64], other: &[u64], num_hashes: u32) -> Estimate
     requires few { length words.now < 2 ^ 58 }
     requires lengths { length words.now ≡ length other.now }
     requires hashes { 1 ≤ num_hashes }
-    ensures { EstimatesCommon (64 * length words.now) num_hashes (ones_of words.now)
-        (ones_of other.now) (ones_of_either words.now other.now) result }
+    ensures { EstimatesCommon (64 * length words.now) num_hashes (ones_of_words words.now)
+        (ones_of_words other.now) (ones_of_either_words words.now other.now) result }
 {
     let (first, second) = (items_in(words, num_hashes), items_in(other, num_hashes));
     estimated_common(first, second, items_in_either(words, other, num_hashes))
@@ -77,8 +77,8 @@ fn part_in_both(words: &[u64], other: &[u64], num_hashes: u32) -> Bracket
     requires few { length words.now < 2 ^ 58 }
     requires lengths { length words.now ≡ length other.now }
     requires hashes { 1 ≤ num_hashes }
-    ensures { EstimatesLikeness (64 * length words.now) num_hashes (ones_of words.now)
-        (ones_of other.now) (ones_of_either words.now other.now) result }
+    ensures { EstimatesLikeness (64 * length words.now) num_hashes (ones_of_words words.now)
+        (ones_of_words other.now) (ones_of_either_words words.now other.now) result }
 {
     let (first, second) = (items_in(words, num_hashes), items_in(other, num_hashes));
     let all = items_in_either(words, other, num_hashes);
@@ -99,7 +99,7 @@ pub extern "C" fn fastbloom_estimate(
 ) -> bool
     ensures done { IsTrue result ↔ ((1 ≤ length words.now) × (length words.now < 2 ^ 58)) }
     ensures bounds { IsTrue result → Tells
-        (EstimatesItems (64 * length words.now) (max 1 num_hashes) (ones_of words.now))
+        (EstimatesItems (64 * length words.now) (max 1 num_hashes) (ones_of_words words.now))
         low.new high.new }
     // A refusal tells nothing.
     ensures refused_low { result ≡ false → low.new ≡ 0 }
@@ -131,7 +131,7 @@ pub extern "C" fn fastbloom_estimate_union(
         × (length words.now ≡ length other.now)) }
     ensures bounds { IsTrue result → Tells
         (EstimatesItems (64 * length words.now) (max 1 num_hashes)
-        (ones_of_either words.now other.now)) low.new high.new }
+        (ones_of_either_words words.now other.now)) low.new high.new }
     // A refusal tells nothing.
     ensures refused_low { result ≡ false → low.new ≡ 0 }
     ensures refused_high { result ≡ false → high.new ≡ 0 }
@@ -161,8 +161,8 @@ pub extern "C" fn fastbloom_estimate_common(
     ensures done { IsTrue result ↔ ((1 ≤ length words.now) × (length words.now < 2 ^ 58)
         × (length words.now ≡ length other.now)) }
     ensures bounds { IsTrue result → Tells
-        (EstimatesCommon (64 * length words.now) (max 1 num_hashes) (ones_of words.now)
-        (ones_of other.now) (ones_of_either words.now other.now)) low.new high.new }
+        (EstimatesCommon (64 * length words.now) (max 1 num_hashes) (ones_of_words words.now)
+        (ones_of_words other.now) (ones_of_either_words words.now other.now)) low.new high.new }
     // A refusal tells nothing.
     ensures refused_low { result ≡ false → low.new ≡ 0 }
     ensures refused_high { result ≡ false → high.new ≡ 0 }
@@ -191,8 +191,8 @@ pub extern "C" fn fastbloom_jaccard(
     ensures done { IsTrue result ↔ ((1 ≤ length words.now) × (length words.now < 2 ^ 58)
         × (length words.now ≡ length other.now)) }
     ensures bounds { IsTrue result → TellsPart
-        (EstimatesLikeness (64 * length words.now) (max 1 num_hashes) (ones_of words.now)
-        (ones_of other.now) (ones_of_either words.now other.now)) low.new high.new }
+        (EstimatesLikeness (64 * length words.now) (max 1 num_hashes) (ones_of_words words.now)
+        (ones_of_words other.now) (ones_of_either_words words.now other.now)) low.new high.new }
     // A refusal tells nothing.
     ensures refused_low { result ≡ false → low.new ≡ 0 }
     ensures refused_high { result ≡ false → high.new ≡ 0 }

@@ -3,7 +3,7 @@ ghost use Rattle.std.specs.Prelude.{◌≡◌, ◌<◌, length};
 ghost use Rattle.bloom_parts.specs.Keys.{key_low, key_high};
 ghost use Rattle.bloom_files.specs.File.{bytes_of, head_numbers, seal_of};
 ghost use Rattle.bloom_files.specs.FileRefusals.{number_at, whole_head_refusal};
-ghost use Rattle.fastbloom_c.specs.Files.{head_for, words_refusal, file_code_or_zero};
+ghost use Rattle.fastbloom_c.specs.Files.{head_for, head_words_refusal, file_code_or_zero};
 
 use bloom_files::{FileError, Head, head_bytes, read_head, seal};
 use bloom_parts::bit_vector::MAX_WORDS;
@@ -43,7 +43,7 @@ pub extern "C" fn fastbloom_head_write(
     seal: u64,
     head: &mut [u8; 64],
 ) -> u8
-    ensures code { result ≡ file_code_or_zero (words_refusal num_words) }
+    ensures code { result ≡ file_code_or_zero (head_words_refusal num_words) }
     ensures value { result ≡ 0
         → head.new ≡ bytes_of (head_numbers (head_for num_words num_hashes key.now) seal) }
     // A refusal changes nothing.

@@ -1,7 +1,7 @@
 //! The rate of false positives that is expected of a filter.
 ghost use Rattle.std.specs.Prelude.{◌≡◌, ◌*◌, ◌^◌, ◌<◌, max};
 ghost use Rattle.bloom_parts.specs.Brackets.{rate_low, rate_high};
-ghost use Rattle.fastbloom_c.specs.Files.{words_refusal, file_code_or_zero};
+ghost use Rattle.fastbloom_c.specs.Files.{head_words_refusal, file_code_or_zero};
 ghost use Rattle.fastbloom_c.specs.Rates.{HoldRate};
 
 use bloom_files::FileError;
@@ -21,7 +21,7 @@ pub extern "C" fn fastbloom_expected_rate(
     low: &mut u64,
     high: &mut u64,
 ) -> u8
-    ensures code { result ≡ file_code_or_zero (words_refusal num_words) }
+    ensures code { result ≡ file_code_or_zero (head_words_refusal num_words) }
     ensures holds { result ≡ 0
         → HoldRate low.new high.new (64 * num_words) (max 1 num_hashes * items) (max 1 num_hashes) }
     // The bounds are exactly these.

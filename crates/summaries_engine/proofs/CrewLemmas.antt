@@ -19,7 +19,7 @@ use Rattle.fastbloom.specs.Replies.{InsertsAll}
 use Rattle.fastbloom.proofs.FillLemmas.{positions_of_all-append}
 use Rattle.summaries_engine.specs.declared.kinds.AnyFilter.TheVariants.{Classic}
 use Rattle.summaries_engine.specs.Crews.{HoldMore, HoldTogether, InsertParts, IsLike, one_has}
-use Rattle.summaries_engine.specs.Fillers.{Takes}
+use Rattle.summaries_engine.specs.Fillers.{FillsMore}
 use Rattle.summaries_engine.specs.Sizes.{IsEmpty}
 
 -- a filter has its own shape
@@ -202,7 +202,7 @@ module _ (empty : DefaultFilter) (is : IsEmpty empty) where
       → HoldTogether empty [] old → HoldMore old hashes new
       → ((first : DefaultFilter) (all : List ℕ) → HoldTogether first all new
       → HoldTogether first all (made ∷ []))
-      → Takes (Classic empty) hashes (Classic made)
+      → FillsMore (Classic empty) hashes (Classic made)
   hold-takes old new made hashes none took united =
       let held = united empty hashes (took empty [] none) in
       let like = All-head (IsLike empty) made [] held.alike in record {

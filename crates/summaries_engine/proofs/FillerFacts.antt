@@ -9,17 +9,17 @@ use Rattle.fastbloom.specs.Fill.{positions_of_all}
 use Rattle.bloom_files.specs.declared.layout.Layout.TheVariants.{Whole, Lines}
 use Rattle.summaries_engine.specs.declared.kinds.AnyFilter.{AnyFilter}
 use Rattle.summaries_engine.specs.declared.kinds.AnyFilter.TheVariants.{Classic, Blocked}
-use Rattle.summaries_engine.specs.Fillers.{Takes, takes-none}
+use Rattle.summaries_engine.specs.Fillers.{FillsMore, takes-none}
 use Rattle.summaries_engine.specs.Summaries.{IsFilled, hash_in}
 use Rattle.summaries_engine.proofs.Cases.{filter, hash-b, key_b, made_of, of_a, of_b, shape, summary-b}
 
 -- no hash changes no filter. What took "a" has its bits, and keeps those from before, its kind and
 -- its hasher
-takes : ((f : AnyFilter) → Takes f [] f)
-    × (Takes (Classic (filter 0)) (0x4074_48d2_b89b_1813 ∷ []) (Classic (filter 0)) → ⊥)
-    × (Takes of_b [] of_a → ⊥)
-    × ((f : DefaultFilter) → Takes (Blocked f) [] (Classic f) → ⊥)
-    × (Takes (Classic (made_of [] 2 0 0)) [] (Classic (made_of [] 2 1 0)) → ⊥)
+takes : ((f : AnyFilter) → FillsMore f [] f)
+    × (FillsMore (Classic (filter 0)) (0x4074_48d2_b89b_1813 ∷ []) (Classic (filter 0)) → ⊥)
+    × (FillsMore of_b [] of_a → ⊥)
+    × ((f : DefaultFilter) → FillsMore (Blocked f) [] (Classic f) → ⊥)
+    × (FillsMore (Classic (made_of [] 2 0 0)) [] (Classic (made_of [] 2 1 0)) → ⊥)
 unfolding content positions chain
 takes = (
   takes-none,

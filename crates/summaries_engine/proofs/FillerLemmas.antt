@@ -12,7 +12,7 @@ use Rattle.bloom_files.specs.declared.layout.Layout.TheVariants.{Lines}
 use Rattle.summaries_engine.specs.declared.kinds.AnyFilter.{AnyFilter}
 use Rattle.summaries_engine.specs.declared.kinds.AnyFilter.TheVariants.{Classic, Blocked}
 use Rattle.summaries_engine.specs.Answers.{IsKeyed}
-use Rattle.summaries_engine.specs.Fillers.{HasTaken, Takes}
+use Rattle.summaries_engine.specs.Fillers.{HasTaken, FillsMore}
 use Rattle.summaries_engine.specs.Inputs.{HashesInputs, Lies, SummarizesInputs}
 use Rattle.summaries_engine.specs.Kinds.{layout_of, parts_of}
 use Rattle.summaries_engine.specs.Sizes.{IsEmpty, IsShapeOf}
@@ -20,8 +20,8 @@ use Rattle.summaries_engine.specs.Summaries.{IsFilled, joined}
 use Rattle.summaries_engine.proofs.FilledLemmas.{Builder, filled-with, positions-append, positions-none, with-filled}
 
 -- hashes were taken, and then further ones
-pub takes-more : (first old new : AnyFilter) (before hashes : List ℕ) → Takes first before old
-    → Takes old hashes new → Takes first (before ++ hashes) new
+pub takes-more : (first old new : AnyFilter) (before hashes : List ℕ) → FillsMore first before old
+    → FillsMore old hashes new → FillsMore first (before ++ hashes) new
 takes-more first old new before hashes one two = record {
   filled = λ shape earlier is.
       subst (λ l. IsFilled shape l new) (append_assoc earlier before hashes)
@@ -32,7 +32,7 @@ takes-more first old new before hashes one two = record {
 
 -- a Bloom filter takes hashes by inserting them
 pub takes-inserted : FilledByInsertsLaw Builder → (old new : DefaultFilter) (hashes : List ℕ)
-    → InsertsAll old hashes new → Takes (Classic old) hashes (Classic new)
+    → InsertsAll old hashes new → FillsMore (Classic old) hashes (Classic new)
 takes-inserted law old new hashes did = record {
   filled = λ shape before is.
       with-filled shape (before ++ hashes) new
@@ -43,7 +43,7 @@ takes-inserted law old new hashes did = record {
 
 -- so does a blocked filter
 pub takes-in-lines : (old new : DefaultFilter) (hashes : List ℕ)
-    → InsertsAllInLines old hashes new → Takes (Blocked old) hashes (Blocked new)
+    → InsertsAllInLines old hashes new → FillsMore (Blocked old) hashes (Blocked new)
 takes-in-lines old new hashes did = record {
   filled = λ shape before is.
       let lines = words_of shape / 8 in
@@ -77,7 +77,7 @@ filled-empty shape f is fits = record {
 }
 
 module _ (empty made : AnyFilter) (hashes : List ℕ) (is : IsEmpty (parts_of empty))
-    (did : Takes empty hashes made) where
+    (did : FillsMore empty hashes made) where
   -- the hashers stay
   pub keyed-made : IsKeyed made
   keyed-made =

@@ -10,7 +10,7 @@ use Rattle.bloom_plain.proofs.CaseLemmas.{content-case, content-past}
 use Rattle.fastbloom.specs.Data.{DefaultFilter}
 use Rattle.fastbloom.specs.FilterFiles.{file_of}
 use Rattle.summaries_engine.specs.declared.kinds.AnyFilter.TheVariants.{Classic, Blocked}
-use Rattle.summaries_engine.specs.Kinds.{HaveSameKind, HaveSameShape, TellsEach, UnitesParts, file_of_kind, has_hash, parts_of}
+use Rattle.summaries_engine.specs.Kinds.{HaveSameKind, HaveOneShape, TellsEach, UnitesParts, file_of_kind, has_hash, parts_of}
 use Rattle.summaries_engine.proofs.Cases.{line, made_of, of_a}
 
 -- the parts are the filter's own
@@ -52,9 +52,9 @@ same-kind : (f g : DefaultFilter)
 same-kind f g = (refl, λ same. let wrong : Lines ≡ Whole = same in cc)
 
 -- the shape doesn't tell the kind, and differs by a hash or a word
-same-shape : (HaveSameShape (Blocked (line 1)) (Classic (line 2)))
-    × (HaveSameShape (Blocked (made_of (1 ∷ []) 2 0 0)) (Blocked (made_of (1 ∷ []) 3 0 0)) → ⊥)
-    × (HaveSameShape (Blocked (made_of (1 ∷ []) 2 0 0)) (Blocked (made_of (1 ∷ 0 ∷ []) 2 0 0)) → ⊥)
+same-shape : (HaveOneShape (Blocked (line 1)) (Classic (line 2)))
+    × (HaveOneShape (Blocked (made_of (1 ∷ []) 2 0 0)) (Blocked (made_of (1 ∷ []) 3 0 0)) → ⊥)
+    × (HaveOneShape (Blocked (made_of (1 ∷ []) 2 0 0)) (Blocked (made_of (1 ∷ 0 ∷ []) 2 0 0)) → ⊥)
 same-shape = (
   record { words = refl; hashes = refl },
   λ same. let wrong : 2 ≡ 3 = same.hashes in omega (arith, wrong),

@@ -23,9 +23,9 @@ abbrev texts : List (Bor (List ℕ)) → List (List ℕ)
 texts names = map (λ name. name.now) names
 
 -- what a call of the iterator over names gives
-abbrev Gives : {S : Type 0} → (S → Named) → (S → List ℕ → Stop → Type 0) → Shards S
+abbrev GivesOne : {S : Type 0} → (S → Named) → (S → List ℕ → Stop → Type 0) → Shards S
     → Option (Result AnyFilter Stop) → Shards S → Type 0
-Gives has fails =
+GivesOne has fails =
     GivesNext has fails (λ shards. shards.shelf.now) (λ shards. texts shards.names.rest.now)
 
 module _ {S : Type 0} (has : S → Named) (fails : S → List ℕ → Stop → Type 0)
@@ -68,7 +68,7 @@ module _ {S : Type 0} (has : S → Named) (fails : S → List ℕ → Stop → T
     -- what was united are the filters of all names
     pub named-whole : {made : AnyFilter}
         → (it : Shards S) × (it ≡ record { shelf = shelf; names = iter })
-        × WholeRun (Gives has fails) it (λ run. UnitesGiven first run.items made)
+        × WholeRun (GivesOne has fails) it (λ run. UnitesGiven first run.items made)
         → (filters : List AnyFilter) × AreNamed (has shelf.now) (texts names) filters
         × UnitesShards filters made
     named-whole {made = made} whole =
@@ -79,7 +79,7 @@ module _ {S : Type 0} (has : S → Named) (fails : S → List ℕ → Stop → T
     -- the filter of another name couldn't be loaded
     pub stops-unread : {refusal : Refusal Stop} {stop : Stop}
         → (it : Shards S) × (it ≡ record { shelf = shelf; names = iter })
-        × RefusesGiven (Gives has fails) it first refusal → refusal ≡ Unread stop
+        × RefusesGiven (GivesOne has fails) it first refusal → refusal ≡ Unread stop
         → StopsUniting (has shelf.now) (fails shelf.now) (texts names) stop
     stops-unread {refusal = refusal} {stop = stop} refused told =
         inr (inl (unloaded Stop has fails (λ shards. shards.shelf.now)
@@ -90,7 +90,7 @@ module _ {S : Type 0} (has : S → Named) (fails : S → List ℕ → Stop → T
     module _ (few : length names ≤ 2 ^ 64 - 1) {refusal : Refusal Stop} {number : ℕ}
         {how : Difference}
         (refused : (it : Shards S) × (it ≡ record { shelf = shelf; names = iter })
-        × RefusesGiven (Gives has fails) it first refusal) (told : refusal ≡ Differs number how)
+        × RefusesGiven (GivesOne has fails) it first refusal) (told : refusal ≡ Differs number how)
       where
         -- the filter of a name differs from the first, and its number is the place of that name
         misfit-there : MisfitAt (has shelf.now) (texts names) first number how

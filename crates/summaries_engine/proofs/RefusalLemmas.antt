@@ -10,7 +10,7 @@ use Rattle.summaries_engine.specs.declared.kinds.AnyFilter.{AnyFilter}
 use Rattle.summaries_engine.specs.declared.unions.Difference.{Difference}
 use Rattle.summaries_engine.specs.declared.unions.Difference.TheVariants as difference
 use Rattle.summaries_engine.specs.declared.unions.Refusal.{Refusal}
-use Rattle.summaries_engine.specs.Kinds.{HaveSameKind, HaveSameShape}
+use Rattle.summaries_engine.specs.Kinds.{HaveSameKind, HaveOneShape}
 use Rattle.summaries_engine.specs.Refusals.{DiffersBy, Fits, IsRefusedFor, RefusesGiven, too_long_text}
 use Rattle.summaries_engine.specs.Summaries.{HaveSameKey, IsUnionOf}
 
@@ -37,8 +37,8 @@ stops steps start last end items item first refusal came next refused = record {
 }
 
 -- two filters of a third one's shape have one shape
-shape-of : (whole first f : AnyFilter) → HaveSameShape whole first → HaveSameShape whole f
-    → HaveSameShape first f
+shape-of : (whole first f : AnyFilter) → HaveOneShape whole first → HaveOneShape whole f
+    → HaveOneShape first f
 shape-of whole first f fits has = record {
   words = sym fits.words ∙ has.words;
   hashes = sym fits.hashes ∙ has.hashes;
@@ -51,8 +51,8 @@ union-fits first whole others union = λ i d within. record {
   kind = sym (All-head (HaveSameKind whole) first others union.kind)
       ∙ All-tail (HaveSameKind whole) first others union.kind i d within;
   shape = shape-of whole first (get_or others i d)
-      (All-head (HaveSameShape whole) first others union.shape)
-      (All-tail (HaveSameShape whole) first others union.shape i d within);
+      (All-head (HaveOneShape whole) first others union.shape)
+      (All-tail (HaveOneShape whole) first others union.shape i d within);
   key = sym (All-head (HaveSameKey whole) first others union.key)
       ∙ All-tail (HaveSameKey whole) first others union.key i d within;
 }
@@ -80,7 +80,7 @@ pub misfit-differs : (first whole shard : AnyFilter) (others : List AnyFilter) (
 misfit-differs first whole shard others how differs union =
     differs-from first whole shard how (record {
       kind = All-head (HaveSameKind whole) first others union.kind;
-      shape = All-head (HaveSameShape whole) first others union.shape;
+      shape = All-head (HaveOneShape whole) first others union.shape;
       key = All-head (HaveSameKey whole) first others union.key;
     }) differs
 

@@ -11,7 +11,7 @@ use Rattle.bloom_parts.specs.Keys.{key_of}
 use Rattle.bloom_parts.specs.Sip.{sip}
 use Rattle.fastbloom.specs.declared.parallel.shape.Shape.{Shape}
 use Rattle.summaries_engine.specs.declared.kinds.AnyFilter.{AnyFilter}
-use Rattle.summaries_engine.specs.Kinds.{HaveSameKind, HaveSameShape, UnitesParts, layout_of, parts_of}
+use Rattle.summaries_engine.specs.Kinds.{HaveSameKind, HaveOneShape, UnitesParts, layout_of, parts_of}
 use Rattle.summaries_engine.specs.Refusals.{Fits}
 use Rattle.summaries_engine.specs.Summaries.{AreSummariesOf, HaveSameKey, IsSummaryOf, IsUnionOf, hash_in, joined, positions_in}
 use Rattle.summaries_engine.proofs.FilledLemmas.{positions-append, positions-none}
@@ -21,7 +21,7 @@ pub union-first : (f : AnyFilter) → IsUnionOf (f ∷ []) f
 union-first f = record {
   bits = λ p. or_comm false (content (parts_of f).words p);
   kind = All-from_recursion (HaveSameKind f) (f ∷ []) (refl, tt);
-  shape = All-from_recursion (HaveSameShape f) (f ∷ []) (
+  shape = All-from_recursion (HaveOneShape f) (f ∷ []) (
     record { words = refl; hashes = refl },
     tt,
   );
@@ -44,15 +44,15 @@ union-next filters old other new so_far fits united =
       kind = All-append (HaveSameKind new) filters (other ∷ [])
           (λ i d within. sym united.kind ∙ so_far.kind i d within)
           (All-from_recursion (HaveSameKind new) (other ∷ []) (sym united.kind ∙ fits.kind, tt));
-      shape = All-append (HaveSameShape new) filters (other ∷ [])
+      shape = All-append (HaveOneShape new) filters (other ∷ [])
           (λ i d within. moved (get_or filters i d) (so_far.shape i d within))
-          (All-from_recursion (HaveSameShape new) (other ∷ []) (moved other fits.shape, tt));
+          (All-from_recursion (HaveOneShape new) (other ∷ []) (moved other fits.shape, tt));
       key = All-append (HaveSameKey new) filters (other ∷ [])
           (λ i d within. key ∙ so_far.key i d within)
           (All-from_recursion (HaveSameKey new) (other ∷ []) (key ∙ fits.key, tt));
     }
   where
-    moved : (f : AnyFilter) → HaveSameShape old f → HaveSameShape new f
+    moved : (f : AnyFilter) → HaveOneShape old f → HaveOneShape new f
     moved f has = record {
       words = sym united.parts.shape.words ∙ has.words;
       hashes = sym united.parts.shape.hashes ∙ has.hashes;
@@ -94,7 +94,7 @@ module _ (shape : Shape) (made : AnyFilter) where
       → IsUnionOf (first ∷ others) made → IsSummaryOf shape (joined parts) made
   summary-joined first others [] each union = absurd each
   summary-joined first others (keys ∷ parts) each union =
-      let has = All-head (HaveSameShape made) first others union.shape in record {
+      let has = All-head (HaveOneShape made) first others union.shape in record {
         words = has.words ∙ each.0.words;
         num_hashes = has.hashes ∙ each.0.num_hashes;
         bits = λ p. union.bits p

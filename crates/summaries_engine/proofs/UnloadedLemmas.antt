@@ -16,11 +16,11 @@ use Rattle.summaries_engine.specs.declared.stop.Stop.{Stop}
 use Rattle.summaries_engine.specs.declared.stop.Stop.TheVariants.{Memory, Input, Bad, Output}
 use Rattle.summaries_engine.specs.Kinds.{parts_of}
 use Rattle.summaries_engine.specs.Loaded.{HasHashesOf, IsInForm, IsRightIn, IsRightOf, IsRightWith, IsReportedOf, IsUnread, hashes_text, head_layout, mark_bytes}
-use Rattle.summaries_engine.specs.Stops.{IsBad, IsInput, IsMemory, IsUnreadAs}
+use Rattle.summaries_engine.specs.Stops.{IsBad, IsInputStop, IsMemory, IsUnreadAs}
 use Rattle.summaries_engine.proofs.LoadedLemmas.{HasRead, layout-first, no-mark}
 
 -- memory and a failed read aren't said of what was read
-pub elsewhere : (P : Error → Type 0) (stop : Stop) → IsMemory stop ⊎ IsInput P stop
+pub elsewhere : (P : Error → Type 0) (stop : Stop) → IsMemory stop ⊎ IsInputStop P stop
     → IsBad (λ said. Unit {0}) stop → ⊥
 elsewhere P Memory told bad = bad
 elsewhere P (Input said) told bad = bad

@@ -7,14 +7,14 @@ use Rattle.summaries_engine.specs.Summaries.{IsFilled}
 
 -- hashes were inserted: in each shape that the old filter has, the new one is filled with these
 -- besides those that the old one was filled with
-pub record Takes (old : AnyFilter) (hashes : List ℕ) (new : AnyFilter) : Type 0 where
+pub record FillsMore (old : AnyFilter) (hashes : List ℕ) (new : AnyFilter) : Type 0 where
   pub filled : (shape : Shape) (before : List ℕ) → IsFilled shape before old
       → IsFilled shape (before ++ hashes) new
   pub kind : HaveSameKind old new
   pub hasher : (parts_of new).hasher ≡ (parts_of old).hasher
 
 -- no hash was inserted
-pub takes-none : (f : AnyFilter) → Takes f [] f
+pub takes-none : (f : AnyFilter) → FillsMore f [] f
 takes-none f = record {
   filled = λ shape before is. subst (λ l. IsFilled shape l f) (sym (append-nil before)) is;
   kind = refl;

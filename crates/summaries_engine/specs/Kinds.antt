@@ -44,8 +44,8 @@ abbrev pub HaveSameKind : AnyFilter → AnyFilter → Type 0
 HaveSameKind f g = layout_of f ≡ layout_of g
 
 -- two filters have as many words and as many hashes
-abbrev pub HaveSameShape : AnyFilter → AnyFilter → Type 0
-HaveSameShape f g = SameShape (parts_of f) (parts_of g)
+abbrev pub HaveOneShape : AnyFilter → AnyFilter → Type 0
+HaveOneShape f g = SameShape (parts_of f) (parts_of g)
 
 -- a union took the old filter to the new, which is of the same kind
 pub record UnitesParts (old other new : AnyFilter) : Type 0 where

@@ -17,7 +17,7 @@ use Rattle.summaries_engine.specs.declared.form.Form.TheVariants.{Sealed, Unseal
 use Rattle.summaries_engine.specs.declared.kinds.AnyFilter.{AnyFilter}
 use Rattle.summaries_engine.specs.declared.stop.Stop.{Stop}
 use Rattle.summaries_engine.specs.Kinds.{IsFileOfKind, parts_of}
-use Rattle.summaries_engine.specs.Stops.{IsBad, IsInput, IsMemory, IsUnreadAs}
+use Rattle.summaries_engine.specs.Stops.{IsBad, IsInputStop, IsMemory, IsUnreadAs}
 
 -- the bytes with which each file of the form begins, whatever its version: `fbloom` and 0
 abbrev pub mark_bytes : List ℕ
@@ -51,7 +51,7 @@ SaysNone name stop = IsBad (HasMessage (Some (name ++ codes ": it holds no filte
 -- said
 abbrev pub IsUnread : List ℕ → Stop → Type 0
 IsUnread name stop = IsMemory stop
-    ⊎ IsInput (HasMessage (Some (name ++ codes ": it can't be read"))) stop
+    ⊎ IsInputStop (HasMessage (Some (name ++ codes ": it can't be read"))) stop
     ⊎ SaysNone name stop
 
 -- what is reported where a file isn't read for this error

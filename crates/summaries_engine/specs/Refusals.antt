@@ -7,21 +7,21 @@ use Rattle.summaries_engine.specs.declared.unions.Difference.{Difference}
 use Rattle.summaries_engine.specs.declared.unions.Difference.TheVariants as difference
 use Rattle.summaries_engine.specs.declared.unions.Refusal.{Refusal}
 use Rattle.summaries_engine.specs.declared.unions.Refusal.TheVariants.{Unread, Differs}
-use Rattle.summaries_engine.specs.Kinds.{HaveSameKind, HaveSameShape}
+use Rattle.summaries_engine.specs.Kinds.{HaveSameKind, HaveOneShape}
 use Rattle.summaries_engine.specs.Summaries.{HaveSameKey}
 
 -- a filter has the kind, the shape and the key of the first
 pub record Fits (first f : AnyFilter) : Type 0 where
   pub kind : HaveSameKind first f
-  pub shape : HaveSameShape first f
+  pub shape : HaveOneShape first f
   pub key : HaveSameKey first f
 
 -- a filter differs from the first in its kind, or else in its shape, or else in its key
 abbrev pub DiffersBy : AnyFilter → AnyFilter → Difference → Type 0
 DiffersBy first f difference.Kind = HaveSameKind first f → ⊥
-DiffersBy first f difference.Shape = HaveSameKind first f × (HaveSameShape first f → ⊥)
+DiffersBy first f difference.Shape = HaveSameKind first f × (HaveOneShape first f → ⊥)
 DiffersBy first f difference.Key =
-    HaveSameKind first f × HaveSameShape first f × (HaveSameKey first f → ⊥)
+    HaveSameKind first f × HaveOneShape first f × (HaveSameKey first f → ⊥)
 
 -- the last of what was given is the filter of this number, and differs from the first; those before
 -- it fit the first

@@ -32,11 +32,11 @@ IsMemory (Bad said) = ⊥
 IsMemory (Output said) = ⊥
 
 -- an input wasn't had, or a read failed, and of what is said this holds
-abbrev pub IsInput : (Error → Type 0) → Stop → Type 0
-IsInput P Memory = ⊥
-IsInput P (Input said) = P said
-IsInput P (Bad said) = ⊥
-IsInput P (Output said) = ⊥
+abbrev pub IsInputStop : (Error → Type 0) → Stop → Type 0
+IsInputStop P Memory = ⊥
+IsInputStop P (Input said) = P said
+IsInputStop P (Bad said) = ⊥
+IsInputStop P (Output said) = ⊥
 
 -- an input isn't what it should be, and of what is said this holds
 abbrev pub IsBad : (Error → Type 0) → Stop → Type 0
@@ -63,14 +63,14 @@ IsUnput stop = IsMemory stop ⊎ IsOutput (SaysOver (codes "the filter can't be 
 -- a read failed, out of memory or for another reason, and its input is named
 abbrev pub IsUnreadable : List ℕ → Stop → Type 0
 IsUnreadable name stop =
-    IsMemory stop ⊎ IsInput (SaysOver (name ++ codes ": it can't be read")) stop
+    IsMemory stop ⊎ IsInputStop (SaysOver (name ++ codes ": it can't be read")) stop
 
 -- what is reported about a read that failed by an error of this kind: exactly that of memory is
 -- memory
 pub record IsUnreadAs (kind : ErrorKind) (name : List ℕ) (stop : Stop) : Type 0 where
   pub memory : kind ≡ OutOfMemory → IsMemory stop
   pub other : (kind ≡ OutOfMemory → ⊥)
-      → IsInput (SaysOver (name ++ codes ": it can't be read")) stop
+      → IsInputStop (SaysOver (name ++ codes ": it can't be read")) stop
 
 -- behind these keys memory was out, or a read failed, or the next key is too long, or no number is
 -- left for it

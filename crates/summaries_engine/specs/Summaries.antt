@@ -11,7 +11,7 @@ use Rattle.fastbloom.specs.Fill.{hashes_of, positions_of_all, words_of}
 use Rattle.fastbloom.specs.Many.{positions_in_lines}
 use Rattle.fastbloom.specs.declared.parallel.shape.Shape.{Shape}
 use Rattle.summaries_engine.specs.declared.kinds.AnyFilter.{AnyFilter}
-use Rattle.summaries_engine.specs.Kinds.{HaveSameKind, HaveSameShape, has_hash, layout_of, parts_of}
+use Rattle.summaries_engine.specs.Kinds.{HaveSameKind, HaveOneShape, has_hash, layout_of, parts_of}
 
 -- the hash of a key's bytes in a filter
 abbrev pub hash_in : AnyFilter → List ℕ → ℕ
@@ -61,7 +61,7 @@ pub record IsUnionOf (filters : List AnyFilter) (made : AnyFilter) : Type 0 wher
   pub bits : (p : ℕ) → content (parts_of made).words p
       ≡ list_any (λ f. content (parts_of f).words p) filters
   pub kind : All (HaveSameKind made) filters
-  pub shape : All (HaveSameShape made) filters
+  pub shape : All (HaveOneShape made) filters
   pub key : All (HaveSameKey made) filters
 
 -- the theorem of shards: where these filters are summaries of parts of the keys, their union is the

@@ -1,7 +1,7 @@
 //! What takes the hashes of keys.
 ghost use Rattle.std.specs.Prelude.{ℕ, List, ◌++◌, IfErr, OnOk};
 ghost use Rattle.summaries_engine.specs.declared.kinds.AnyFilter.TheVariants.{Classic, Blocked};
-ghost use Rattle.summaries_engine.specs.Fillers.{Takes, takes-none};
+ghost use Rattle.summaries_engine.specs.Fillers.{FillsMore, takes-none};
 
 use crate::stop::Stop;
 use fastbloom::laws::fill_equals_one_filter;
@@ -43,7 +43,7 @@ pub trait Filler {
 impl Filler for BloomFilter {
     ghost ready = { λ _. Unit {0} };
 
-    ghost took = { λ old hashes new. Takes (Classic old) hashes (Classic new) };
+    ghost took = { λ old hashes new. FillsMore (Classic old) hashes (Classic new) };
 
     ghost refuses = { λ _. ⊥ };
 
@@ -64,7 +64,7 @@ impl Filler for BloomFilter {
 impl Filler for BlockedBloomFilter {
     ghost ready = { λ _. Unit {0} };
 
-    ghost took = { λ old hashes new. Takes (Blocked old) hashes (Blocked new) };
+    ghost took = { λ old hashes new. FillsMore (Blocked old) hashes (Blocked new) };
 
     ghost refuses = { λ _. ⊥ };
 

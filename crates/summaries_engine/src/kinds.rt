@@ -3,7 +3,7 @@ ghost use Rattle.std.specs.Prelude.{◌≡◌, ◌≤◌, ◌*◌, ◌↔◌, Is
 ghost use Rattle.std.specs.Io.KnownBytes.{Appends};
 ghost use Rattle.bloom_parts.specs.Content.{AreWords};
 ghost use Rattle.lines.specs.Writing.{AppendsPart};
-ghost use Rattle.summaries_engine.specs.Kinds.{HaveSameKind, HaveSameShape, TellsEach, UnitesParts, file_of_kind, has_hash, parts_of};
+ghost use Rattle.summaries_engine.specs.Kinds.{HaveSameKind, HaveOneShape, TellsEach, UnitesParts, file_of_kind, has_hash, parts_of};
 
 use fastbloom::{BlockedBloomFilter, BloomFilter, DefaultHasher, FilterFile};
 use std::io;
@@ -93,7 +93,7 @@ impl AnyFilter {
     /// Whether two filters have as many words and as many hashes. Neither their kinds nor their
     /// hashers are looked at.
     pub fn same_shape(&self, other: &Self) -> bool
-        ensures { IsTrue result ↔ HaveSameShape self.now other.now }
+        ensures { IsTrue result ↔ HaveOneShape self.now other.now }
     {
         self.as_slice().len() == other.as_slice().len() && self.num_hashes() == other.num_hashes()
     }
@@ -101,7 +101,7 @@ impl AnyFilter {
     /// Sets every bit that is set in the other. The hashers aren't looked at.
     pub fn union(&mut self, other: &Self)
         requires kind { HaveSameKind self.old other.now }
-        requires shape { HaveSameShape self.old other.now }
+        requires shape { HaveOneShape self.old other.now }
         ensures unites { UnitesParts self.old other.now self.new }
     {
         match self {

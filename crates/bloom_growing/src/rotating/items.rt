@@ -13,11 +13,11 @@ impl<F: GrowableFilter> RotatingFilterOf<F> {
     #[inline]
     pub fn source_hash<T: Hash>(&self, val: &T) -> u64
         ensures hash { result ≡ source_hash_of ⟦<DefaultHasher as BuildHasher>⟧
-            ⟦<RandomDefaultHasher as Hasher>⟧ T.hash_input self.now.plan.hasher val.now }
+            ⟦<RandomDefaultHasher as Hasher>⟧ T.hash_input self.now.setup.hasher val.now }
         // An equal item has the same source hash.
         ensures alike { (other : T) → IsTrue (T.eq val.now other)
             → result ≡ source_hash_of ⟦<DefaultHasher as BuildHasher>⟧
-            ⟦<RandomDefaultHasher as Hasher>⟧ T.hash_input self.now.plan.hasher other }
+            ⟦<RandomDefaultHasher as Hasher>⟧ T.hash_input self.now.setup.hasher other }
     {
         let mut state = self.hasher.build_hasher();
         val.hash(&mut state);
@@ -28,11 +28,11 @@ impl<F: GrowableFilter> RotatingFilterOf<F> {
     #[inline]
     pub fn insert<T: Hash>(&mut self, val: &T) -> bool
         ensures receives { let hash = source_hash_of ⟦<DefaultHasher as BuildHasher>⟧
-            ⟦<RandomDefaultHasher as Hasher>⟧ T.hash_input self.old.plan.hasher in
+            ⟦<RandomDefaultHasher as Hasher>⟧ T.hash_input self.old.setup.hasher in
             Receives F.kind self.old (hash val.now) self.new result }
         // An equal item would have been inserted alike.
         ensures alike { let hash = source_hash_of ⟦<DefaultHasher as BuildHasher>⟧
-            ⟦<RandomDefaultHasher as Hasher>⟧ T.hash_input self.old.plan.hasher in
+            ⟦<RandomDefaultHasher as Hasher>⟧ T.hash_input self.old.setup.hasher in
             (other : T) → IsTrue (T.eq val.now other)
             → Receives F.kind self.old (hash other) self.new result }
     {
@@ -44,11 +44,11 @@ impl<F: GrowableFilter> RotatingFilterOf<F> {
     #[inline]
     pub fn contains<T: Hash>(&self, val: &T) -> bool
         ensures found { let hash = source_hash_of ⟦<DefaultHasher as BuildHasher>⟧
-            ⟦<RandomDefaultHasher as Hasher>⟧ T.hash_input self.now.plan.hasher in
+            ⟦<RandomDefaultHasher as Hasher>⟧ T.hash_input self.now.setup.hasher in
             result ≡ either_contains F.kind self.now (hash val.now) }
         // An equal item is found alike.
         ensures alike { let hash = source_hash_of ⟦<DefaultHasher as BuildHasher>⟧
-            ⟦<RandomDefaultHasher as Hasher>⟧ T.hash_input self.now.plan.hasher in
+            ⟦<RandomDefaultHasher as Hasher>⟧ T.hash_input self.now.setup.hasher in
             (other : T) → IsTrue (T.eq val.now other)
             → result ≡ either_contains F.kind self.now (hash other) }
     {

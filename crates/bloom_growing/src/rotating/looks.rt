@@ -25,7 +25,7 @@ impl<F: GrowableFilter> RotatingFilterOf<F> {
     /// The number of new items that the newer filter took.
     pub fn taken(&self) -> usize
         ensures value { result ≡ self.now.taken }
-        ensures most { result < self.now.plan.room }
+        ensures most { result < self.now.setup.room }
     {
         self.taken
     }
@@ -33,7 +33,7 @@ impl<F: GrowableFilter> RotatingFilterOf<F> {
     /// The number of new items that each filter is for. Once the newer one took these, it becomes
     /// the older one.
     pub fn room(&self) -> usize
-        ensures { result ≡ self.now.plan.room }
+        ensures { result ≡ self.now.setup.room }
     {
         self.room
     }

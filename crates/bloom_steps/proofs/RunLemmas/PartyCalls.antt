@@ -11,7 +11,7 @@ use Rattle.bloom_steps.specs.Scripts.{Taken}
 use Rattle.bloom_steps.specs.Steps.{word_index}
 use Rattle.bloom_steps.specs.Courses.{CallAfterCall, begun_call, call_records, did, last_leaves_running, no_call, party_of, records_of, whole_call}
 use Rattle.bloom_steps.specs.Machines.{AsksRight, StandsFurther}
-use Rattle.bloom_steps.specs.Worlds.{AreWhole, HasCalled, PartyAt, slot_runs}
+use Rattle.bloom_steps.specs.Worlds.{AreWholeCalls, HasCalled, PartyAt, slot_runs}
 use Rattle.bloom_steps.proofs.RunLemmas.RunningCalls.{newest-append, newest-call, still_runs-machine}
 use Rattle.bloom_steps.proofs.RunLemmas.PartyRecords.{did-more, records_of-more, records_of-same}
 use Rattle.bloom_steps.proofs.StepLemmas.Completing.{finish}
@@ -44,7 +44,7 @@ module _ (w k p : ℕ) where
   -- a party that runs no call has whole calls behind it
   pub whole-party : (slot : Option Machine) (rs : List Record) → PartyAt w k p slot rs
       → slot_runs slot ≡ false
-      → AreWhole w k p rs
+      → AreWholeCalls w k p rs
   whole-party None rs at off later calls =
       subst (λ l. CallAfterCall w k p (l ++ later)) (sym at) calls
   whole-party (Some m) rs at off later calls =

@@ -42,7 +42,6 @@ inserts-next n hash i q old mid new a b both is both_is first second =
 module _ (n hash i q : ℕ) (old mid new : Sight) (answer : Bool) (is : q ≡ place n hash i)
     (first : Looks n hash i old mid) (beside : GrowsBeside n hash i old mid)
     (second : LooksAt q mid new answer) where
-
   -- what is new lies in a word that was loaded
   pub grows-next : GrowsBeside n hash (i + 1) old new
   grows-next p known = elim (second.grown p known) [

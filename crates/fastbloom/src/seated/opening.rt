@@ -1,6 +1,6 @@
 //! How the words of a filter are put in: the first seat does it by steps, before it is split.
 ghost use Rattle.std.specs.Prelude.{◌≡◌, ◌<◌, length, replicate, slice_index, slice_set};
-ghost use Rattle.fastbloom.specs.Plays.{SitsAt, IsFirst, IsFresh, Fills, with_bits, put_in, settled};
+ghost use Rattle.fastbloom.specs.Plays.{SitsAt, IsFirst, IsFresh, Puts, with_bits, put_in, settled};
 
 use super::rule::Sets;
 use super::steps::{FilterSeat, SharedWords};
@@ -25,7 +25,7 @@ fn put_bits(shared: &SharedWords, seat: &mut FilterSeat, word: usize, mask: u64)
     requires at { SitsAt seat.old shared.now.table_id shared.now.key }
     requires within { word < shared.now.table_id.words }
     requires first { IsFirst seat.old.me.0 }
-    ensures { Fills seat.old seat.new (with_bits seat.old.me.0.start word mask) }
+    ensures { Puts seat.old seat.new (with_bits seat.old.me.0.start word mask) }
 {
     shared.fetch_or::<PutsIn>(seat, word, mask);
 }
@@ -37,7 +37,7 @@ fn put_word(shared: &SharedWords, seat: &mut FilterSeat, word: usize, value: u64
     requires first { IsFirst seat.old.me.0 }
     requires has { word < length seat.old.me.0.start }
     requires empty { slice_index seat.old.me.0.start word ≡ 0 }
-    ensures { Fills seat.old seat.new (slice_set seat.old.me.0.start word value) }
+    ensures { Puts seat.old seat.new (slice_set seat.old.me.0.start word value) }
 {
     'bits: for bit in 0..64u32 {
         if (value >> bit) & 1 == 1 {
@@ -52,7 +52,7 @@ fn put_words(shared: &SharedWords, seat: &mut FilterSeat, words: &[u64])
     requires count { length words.now ≡ shared.now.table_id.words }
     requires first { IsFirst seat.old.me.0 }
     requires empty { seat.old.me.0.start ≡ replicate (length words.now) 0 }
-    ensures { Fills seat.old seat.new words.now }
+    ensures { Puts seat.old seat.new words.now }
 {
     'words: for i in 0..words.len() {
         put_word(shared, seat, i, words[i]);

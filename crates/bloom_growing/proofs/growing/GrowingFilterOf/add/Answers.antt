@@ -1,5 +1,5 @@
 use Rattle.std.proofs.Common.{◌≡◌, ◌<◌, false, map, sym, subst}
-use Rattle.bloom_growing.specs.Growing.{plan_of, any_contains, newest_room, IsKept}
+use Rattle.bloom_growing.specs.Growing.{setup_of, any_contains, newest_room, IsSound}
 use Rattle.bloom_growing.specs.Kinds.{InsertsIn}
 use Rattle.bloom_growing.proofs.GrowingKeptLemmas.{kept-adds}
 use Rattle.bloom_growing.proofs.growing.GrowingFilterOf.add.Goals as goal
@@ -11,9 +11,9 @@ invariant_of-self g c =
     let seen = g.F.GrowableFilter.seen in
     let held = c.insert_once.ensures.held c.if-insert_once.true in
     subst
-    (λ f. IsKept kind
+    (λ f. IsSound kind
     (record {
-      plan = plan_of inside.rate inside.items inside.hasher;
+      setup = setup_of inside.rate inside.items inside.hasher;
       older = map seen inside.older.items;
       newest = f;
       taken = inside.taken;

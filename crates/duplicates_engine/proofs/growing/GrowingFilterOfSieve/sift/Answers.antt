@@ -2,14 +2,14 @@ use Rattle.std.proofs.Common.{subst}
 use Rattle.std.specs.Prelude.{IfOk}
 use Rattle.std.specs.Result.{result_err}
 use Rattle.bloom_parts.specs.Hashed.{finish, write}
-use Rattle.bloom_growing.specs.GrowingInserts.{RefusesInsert, Takes}
+use Rattle.bloom_growing.specs.GrowingInserts.{RefusesInsert, Accepts}
 use Rattle.duplicates_engine.proofs.GrownLemmas.{hashes-ok, new-ok, refused-err, taken-ok}
 use Rattle.duplicates_engine.proofs.growing.GrowingFilterOfSieve.sift.Goals as goal
 
 pub returns-clause-sifted : goal.returns-clause-sifted
 returns-clause-sifted g c =
     subst (λ hash. IfOk c.insert_hash.result (λ reply.
-    Takes g.F.GrowableFilter.kind c.args.self.now hash c.insert_hash.new.self reply))
+    Accepts g.F.GrowableFilter.kind c.args.self.now hash c.insert_hash.new.self reply))
     c.requires c.insert_hash.ensures.takes
 
 pub returns-clause-new : goal.returns-clause-new

@@ -13,7 +13,7 @@ returns-clause-sifted g c =
 
 pub returns-clause-new : goal.returns-clause-new
 returns-clause-new g c = λ is lines came.
-    tells-new (λ line. finish (write c.args.self.now.plan.hasher.hasher line))
+    tells-new (λ line. finish (write c.args.self.now.setup.hasher.hasher line))
     g.F.GrowableFilter.kind came.0
     c.args.self.now c.args._line.now c.insert_hash.result c.rotating_recent_stays_found.ensures
     (returns-clause-sifted g c).answers is lines came.1
@@ -27,4 +27,4 @@ returns-clause-taken g c = λ lines came.
 pub returns-clause-hashes : goal.returns-clause-hashes
 returns-clause-hashes g c =
     keeps-hash (λ s line. finish (write s.hasher line))
-    (ap (λ plan. plan.hasher) c.insert_hash.ensures.plan)
+    (ap (λ setup. setup.hasher) c.insert_hash.ensures.setup)

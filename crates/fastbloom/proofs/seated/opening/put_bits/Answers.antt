@@ -1,4 +1,4 @@
-use Rattle.fastbloom.proofs.SeatedLemmas.Fills.{fills-by}
+use Rattle.fastbloom.proofs.SeatedLemmas.Puts.{puts-by}
 use Rattle.fastbloom.proofs.SeatedLemmas.Opening.{puts_in}
 use Rattle.fastbloom.proofs.seated.opening.put_bits.Goals as goal
 
@@ -12,4 +12,4 @@ fetch_or-requires c = (
 
 -- the step adds to the start alone
 pub returns : goal.returns
-returns c = fills-by _ _ _ c.requires.first c.fetch_or.ensures.0 c.fetch_or.ensures.2
+returns c = puts-by _ _ _ c.requires.first c.fetch_or.ensures.0 c.fetch_or.ensures.2

@@ -1,8 +1,8 @@
 -- What `begin` does where it succeeds.
 use Rattle.std.proofs.Common.{◌≡◌, ◌≤◌, [], ◌∷◌, ◌++◌, map, sym, refl, ◌∙◌, ap, subst}
 use Rattle.std.proofs.lemmas.List.{map-append}
-use Rattle.bloom_growing.specs.Growing.{plan_of, newest_room}
-use Rattle.bloom_growing.specs.GrowingInserts.{Begins}
+use Rattle.bloom_growing.specs.Growing.{setup_of, newest_room}
+use Rattle.bloom_growing.specs.GrowingInserts.{BeginsNext}
 use Rattle.bloom_growing.proofs.GrowingKeptLemmas.{next-number, kept-begins}
 use Rattle.bloom_growing.proofs.GrowingLemmas.{made-empty}
 use Rattle.bloom_growing.proofs.growing.GrowingFilterOf.begin.Goals as goal
@@ -35,15 +35,15 @@ next-begun g c =
     pushed.ensures.items ∙ ap (λ l. l ++ c.replace-full.result ∷ []) c.in_ok-reserve.ensures.items
     ∙ ap (λ f. inside.older.items ++ f ∷ []) c.replace-full.ensures.value in
     subst
-    (λ v. Begins g.F.GrowableFilter.kind v (record {
-      plan = plan_of inside.rate inside.items inside.hasher;
+    (λ v. BeginsNext g.F.GrowableFilter.kind v (record {
+      setup = setup_of inside.rate inside.items inside.hasher;
       older = map seen pushed.new.self.items;
       newest = seen c.replace-full.new.dest;
       taken = 0;
     }))
     c.self.view_is
     (record {
-      plan = refl;
+      setup = refl;
       older = ap (map seen) items ∙ map-append seen inside.older.items (inside.newest ∷ []);
       newest =
           next-number _ _ inside.newest_rate inside.room c.self.invariant c.in_ok-rate.rate

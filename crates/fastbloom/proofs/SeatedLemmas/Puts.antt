@@ -4,7 +4,7 @@ use Rattle.std.proofs.lemmas.Nat.{mod-pow-add, or_shifted, or_comm, pow_pos}
 use Rattle.std.proofs.lemmas.Nat.Bits.{bit_at-lt}
 use Rattle.std.specs.Int.{bit_at}
 use lib.Seq.{set-set}
-use Rattle.fastbloom.specs.Plays.{FilterSeat, IsFirst, Fills, with_bits}
+use Rattle.fastbloom.specs.Plays.{FilterSeat, IsFirst, Puts, with_bits}
 use Rattle.fastbloom.specs.declared.seated.rule.Sets.{Sets}
 
 -- the low bits of a number, and one more
@@ -46,10 +46,10 @@ word-on start words i value bit mask within is is_mask on =
     ∙ ap (set start i) (low-on value bit on)
 
 -- a step of the first seat that changes its start alone
-pub fills-by : (old new : FilterSeat) (words : List ℕ) → IsFirst old.me.0
+pub puts-by : (old new : FilterSeat) (words : List ℕ) → IsFirst old.me.0
     → new.table_id ≡ old.table_id → new.me.0 ≡ record old.me.0 { start = words }
-    → Fills old new words
-fills-by old new words was table is = record {
+    → Puts old new words
+puts-by old new words was table is = record {
   table = table;
   first = record {
     role = ap (λ (v : Sets). v.role) is ∙ was.role;
@@ -62,12 +62,12 @@ fills-by old new words was table is = record {
 }
 
 -- a seat that put in the low bits of a word puts in the next, which is set
-pub fills-on : (a b c d : FilterSeat) (start : List ℕ) (i value bit mask : ℕ) → i < length start
-    → Fills a b (set start i (value % 2 ^ bit)) → Fills b c (with_bits b.me.0.start i mask)
+pub puts-on : (a b c d : FilterSeat) (start : List ℕ) (i value bit mask : ℕ) → i < length start
+    → Puts a b (set start i (value % 2 ^ bit)) → Puts b c (with_bits b.me.0.start i mask)
     → d ≡ c → mask ≡ 2 ^ bit → bit_at value bit ≡ 1
-    → Fills a d (set start i (value % 2 ^ (bit + 1)))
-fills-on a b c d start i value bit mask within first second is is_mask on =
-    subst (λ (seat : FilterSeat). Fills a seat (set start i (value % 2 ^ (bit + 1)))) (sym is)
+    → Puts a d (set start i (value % 2 ^ (bit + 1)))
+puts-on a b c d start i value bit mask within first second is is_mask on =
+    subst (λ (seat : FilterSeat). Puts a seat (set start i (value % 2 ^ (bit + 1)))) (sym is)
     record {
       table = second.table ∙ first.table;
       first = second.first;
@@ -77,9 +77,9 @@ fills-on a b c d start i value bit mask within first second is is_mask on =
     }
 
 -- a seat that put in the low bits of a word leaves the next, which is clear
-pub fills-off : (a b c : FilterSeat) (start : List ℕ) (i value bit : ℕ)
-    → Fills a b (set start i (value % 2 ^ bit)) → c ≡ b → bit_at value bit ≢ 1
-    → Fills a c (set start i (value % 2 ^ (bit + 1)))
-fills-off a b c start i value bit first is off =
-    subst (λ (seat : FilterSeat). Fills a seat (set start i (value % 2 ^ (bit + 1)))) (sym is)
-    (subst (Fills a b) (ap (set start i) (low-off value bit off)) first)
+pub puts-off : (a b c : FilterSeat) (start : List ℕ) (i value bit : ℕ)
+    → Puts a b (set start i (value % 2 ^ bit)) → c ≡ b → bit_at value bit ≢ 1
+    → Puts a c (set start i (value % 2 ^ (bit + 1)))
+puts-off a b c start i value bit first is off =
+    subst (λ (seat : FilterSeat). Puts a seat (set start i (value % 2 ^ (bit + 1)))) (sym is)
+    (subst (Puts a b) (ap (set start i) (low-off value bit off)) first)
