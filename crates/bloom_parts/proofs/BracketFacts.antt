@@ -5,7 +5,7 @@ use Rattle.bloom_parts.specs.declared.math.bracket.Bracket.{Bracket}
 use Rattle.bloom_parts.specs.Brackets.{low_of, high_of, width_of, Holds, HoldsDensity, HoldsRate, density_low, density_high, rate_low, rate_high}
 use Rattle.bloom_parts.specs.Counts.{count_on}
 use Rattle.bloom_parts.specs.Draws.{sum_below, sum_draws, is_drawn, all_in}
-use Rattle.bloom_parts.specs.FalsePositives.{HoldsFalsePositives, HoldsPositives, false_pos_high, false_pos_width, IsCapacity, positives_low, positives_high, BoundsPositives, BoundsEither}
+use Rattle.bloom_parts.specs.FalsePositives.{HoldsFalsePositives, HoldsPositives, false_pos_high, false_pos_width, IsCapacity, positives_low, positives_high, BoundsPositives, HoldsEither, BoundsEither}
 use Rattle.bloom_parts.specs.Powers.{rounded_power, lower_power_of, upper_power_of}
 use Rattle.bloom_parts.proofs.Cases.{only, between, exactly, third}
 use Rattle.bloom_parts.proofs.RateBoundLemmas.{either-between, positives-between}
@@ -153,8 +153,8 @@ abbrev half : Bracket
 half = exactly (2 ^ 62) (lit≤ tt)
 
 bounds_either-cases : BoundsEither half half (between (2 ^ 62) (2 ^ 63) (lit≤ tt) (lit≤ tt))
-    × (BoundsEither half half (between (2 ^ 62) (2 ^ 63 - 1) (lit≤ tt) (lit≤ tt)) → ⊥)
-    × (BoundsEither half half (between (2 ^ 62 + 1) (2 ^ 63) (lit≤ tt) (lit≤ tt)) → ⊥)
+    × (HoldsEither half half (between (2 ^ 62) (2 ^ 63 - 1) (lit≤ tt) (lit≤ tt)) → ⊥)
+    × (HoldsEither half half (between (2 ^ 62 + 1) (2 ^ 63) (lit≤ tt) (lit≤ tt)) → ⊥)
     × (BoundsEither half half (between 0 (2 ^ 63) (lit≤ tt) (lit≤ tt)) → ⊥)
 unfolding count_on
 bounds_either-cases = (
@@ -164,8 +164,8 @@ bounds_either-cases = (
     low = refl;
     high = refl;
   },
-  λ is. omega (arith, (is.holds 2 (only 0) (only 1) one one).at_most),
-  λ is. omega (arith, (is.holds 2 (only 0) (only 0) one one).at_least),
+  λ holds. omega (arith, (holds 2 (only 0) (only 1) one one).at_most),
+  λ holds. omega (arith, (holds 2 (only 0) (only 0) one one).at_least),
   λ is. omega (arith, is.low),
 )
   where

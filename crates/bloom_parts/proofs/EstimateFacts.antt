@@ -4,8 +4,8 @@
 use Rattle.std.proofs.Common.{◌≡◌, ◌-◌, ◌*◌, ◌^◌, ◌<◌, ℕ, None, Some, refl, sym, ◌∙◌, ap, arith, unwrap_or, lit<, lit≤}
 use Rattle.std.proofs.Math.Nat.{le_refl}
 use Rattle.std.proofs.lemmas.Option.{none-some}
-use Rattle.bloom_parts.specs.Alike.{HoldsItems, IsCommon, IsPartOf, EstimatesEach, EstimatesCommon, EstimatesLikeness, common_least, part_low}
-use Rattle.bloom_parts.specs.Estimates.{EstimatesItems, DensityLaw, least_of, most_of}
+use Rattle.bloom_parts.specs.Alike.{HoldsItems, HoldsCommon, HoldsPart, IsCommon, IsPartOf, EstimatesEach, EstimatesCommon, EstimatesLikeness, common_least, part_low}
+use Rattle.bloom_parts.specs.Estimates.{IsEstimate, IsTight, IsNear, EstimatesItems, DensityLaw, least_of, most_of}
 use Rattle.bloom_parts.specs.Powers.{rounded_power}
 use Rattle.bloom_parts.proofs.Cases.{between, exactly, third, from_to, just, from}
 use Rattle.bloom_parts.proofs.EstimateLemmas.{is-estimate}
@@ -15,17 +15,17 @@ ends-one_to_two : (least_of (from_to 1 2 (lit≤ tt)) ≡ 1)
     × (most_of (from 1) ≡ None)
 ends-one_to_two = (refl, refl, refl)
 
--- one bit by one hash is one item: no other number of items is as near, no wider bounds are, and an
--- upper bound is missing only where it has to be
+-- one bit by one hash is one item. With two hashes an item sets more than one bit and none sets
+-- less, no nearer bounds are left out, an upper bound is missing only where it has to be, and
+-- bounds are no further apart than is said. No bit is no item, and of all bits there is no upper
+-- bound
 estimates_items-cases : EstimatesItems 64 1 1 (just 1)
-    × (EstimatesItems 64 1 1 (just 2) → ⊥)
-    × (EstimatesItems 64 1 1 (just 0) → ⊥)
-    × (EstimatesItems 64 1 1 (from 2) → ⊥)
-    × (EstimatesItems 64 1 1 (from_to 0 0 (lit≤ tt)) → ⊥)
-    × (EstimatesItems 64 1 1 (from_to 0 1 (lit≤ tt)) → ⊥)
-    × (EstimatesItems 64 1 1 (from_to 1 2 (lit≤ tt)) → ⊥)
-    × (EstimatesItems 64 1 1 (from_to 0 3 (lit≤ tt)) → ⊥)
-    × (EstimatesItems 64 1 63 (from (2 ^ 64 - 1)) → ⊥)
+    × (IsEstimate 64 2 1 1 (Some 1) → ⊥)
+    × (IsEstimate 64 2 1 0 (Some 0) → ⊥)
+    × (IsTight 64 1 1 0 (Some 1) → ⊥)
+    × (IsTight 64 1 1 1 (Some 2) → ⊥)
+    × (IsTight 64 1 63 (2 ^ 64 - 1) None → ⊥)
+    × (IsNear 64 1 1939 (Some 1942) → ⊥)
     × (EstimatesItems 64 1 0 (from_to 0 1 (lit≤ tt)) → ⊥)
     × (EstimatesItems 64 1 64 (from_to 0 5 (lit≤ tt)) → ⊥)
 unfolding rounded_power
@@ -43,14 +43,12 @@ estimates_items-cases = (
     none = λ is. absurd (omega (arith, is));
     all = λ is. absurd (omega (arith, is));
   },
-  λ is. omega (arith, is.fits.at_most),
-  λ is. omega (arith, is.fits.at_least),
-  λ is. omega (arith, is.fits.below 1 (lit< tt)),
-  λ is. omega (arith, is.fits.above 1 (lit< tt)),
-  λ is. omega (arith, is.tight.low_last (lit< tt)),
-  λ is. omega (arith, is.tight.high_first (lit< tt)),
-  λ is. omega (arith, is.near),
-  λ is. omega (arith, is.tight.none refl),
+  λ is. omega (arith, is.at_most),
+  λ is. omega (arith, is.at_least),
+  λ is. omega (arith, is.low_last (lit< tt)),
+  λ is. omega (arith, is.high_first (lit< tt)),
+  λ is. omega (arith, is.none refl),
+  λ is. omega (arith, is),
   λ is. omega (arith, ap (λ most. unwrap_or most 0) (is.none refl).1),
   λ is. none-some 5 (sym (is.all refl)),
 )
@@ -66,8 +64,8 @@ holds-just items = record { at_least = le_refl items; at_most = le_refl items }
 -- five and four, of which the union has six, have three in common: neither four nor two, and no
 -- wider bounds
 is_common-cases : IsCommon (just 5) (just 4) (just 6) (just 3)
-    × (IsCommon (just 5) (just 4) (just 6) (just 4) → ⊥)
-    × (IsCommon (just 5) (just 4) (just 6) (just 2) → ⊥)
+    × (HoldsCommon (just 5) (just 4) (just 6) (just 4) → ⊥)
+    × (HoldsCommon (just 5) (just 4) (just 6) (just 2) → ⊥)
     × (IsCommon (just 5) (just 4) (just 6) (from_to 2 3 (lit≤ tt)) → ⊥)
     × (IsCommon (just 5) (just 4) (just 6) (from_to 3 4 (lit≤ tt)) → ⊥)
 is_common-cases = (
@@ -79,8 +77,8 @@ is_common-cases = (
     low = refl;
     high = refl;
   },
-  λ is. omega (arith, (is.holds 5 4 6 (holds-just 5) (holds-just 4) (holds-just 6)).at_least),
-  λ is. omega (arith, (is.holds 5 4 6 (holds-just 5) (holds-just 4) (holds-just 6)).at_most),
+  λ holds. omega (arith, (holds 5 4 6 (holds-just 5) (holds-just 4) (holds-just 6)).at_least),
+  λ holds. omega (arith, (holds 5 4 6 (holds-just 5) (holds-just 4) (holds-just 6)).at_most),
   λ is. omega (arith, is.low),
   λ is. omega (arith, ap (λ most. unwrap_or most 0) is.high),
 )
@@ -91,7 +89,7 @@ is_part_of-cases : IsPartOf (just 1) (just 3) third
     → ⊥)
     × (IsPartOf (just 1) (just 3)
     (between 3074457345618258602 3074457345618258604 (lit≤ tt) (lit≤ tt)) → ⊥)
-    × (IsPartOf (just 1) (just 3) (exactly 3074457345618258602 (lit≤ tt)) → ⊥)
+    × (HoldsPart (just 1) (just 3) (exactly 3074457345618258602 (lit≤ tt)) → ⊥)
 is_part_of-cases = (
   record {
     holds = λ m n some all _ _. record {
@@ -103,7 +101,7 @@ is_part_of-cases = (
   },
   λ is. omega (arith, is.low),
   λ is. omega (arith, is.high),
-  λ is. omega (arith, (is.holds 1 3 (holds-just 1) (holds-just 3) (lit< tt) (lit≤ tt)).at_most),
+  λ holds. omega (arith, (holds 1 3 (holds-just 1) (holds-just 3) (lit< tt) (lit≤ tt)).at_most),
 )
 
 each-one : EstimatesEach 64 1 1 1 1 (just 1) (just 1) (just 1)
