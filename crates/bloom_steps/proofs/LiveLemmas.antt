@@ -1,6 +1,6 @@
 -- From the steps of a store that lends shared words to the calls on them.
-use Rattle.std.proofs.Common.{◌≡◌, ◌∙◌, ℕ, zero, suc, ◌+◌, ◌≤◌, Bool, List, [], ◌∷◌, length, Option, Some, None, ap, refl, subst, sym, arith, slice_get}
-use Rattle.std.proofs.lemmas.Option.{none-some, same_Some}
+use Rattle.std.proofs.Common.{◌≡◌, ◌∙◌, ℕ, suc, ◌+◌, ◌≤◌, Bool, List, [], ◌∷◌, length, Option, Some, None, ap, refl, subst, sym, arith, slice_get}
+use Rattle.std.proofs.lemmas.Option.{none-some}
 use Rattle.bloom_parts.specs.Made.{SharedWords}
 use Rattle.bloom_steps.specs.Vocabulary.{Contains, Insert, Done, Call}
 use Rattle.bloom_steps.specs.LiveSteps.{EachInTurn, IsMade, Lent, MakesCallInTurn, MakesCallOn, MakesStep, WasInserted}
@@ -21,20 +21,6 @@ steps-made words other (t ∷ ts) before after is_words is_other linked =
           (subst (λ w. IsMade w before.other before.turn t.step t.found mid.turn) is_words step.0),
       steps-made words other ts mid after (step.1 ∙ is_words) (step.2 ∙ is_other) linked.2,
     )
-
--- one of the steps that were made, with its turn and the next one
-pub made-at : (words other : SharedWords) (first last : ℕ) (taken : List Taken)
-    → Linked (IsMade words other) first taken last → (i : ℕ) (t : Taken)
-    → slice_get taken i ≡ Some t
-    → (before : ℕ) × (after : ℕ) × IsMade words other before t.step t.found after
-made-at words other first last [] made i t got = absurd (none-some t got)
-made-at words other first last (u ∷ us) made zero t got = (
-  first,
-  made.0,
-  subst (λ (v : Taken). IsMade words other first v.step v.found made.0) (same_Some u t got) made.1,
-)
-made-at words other first last (u ∷ us) made (suc i) t got =
-    made-at words other made.0 last us made.2 i t got
 
 -- a whole script that a store was driven through is a call on the vectors that it lends
 pub drives-call : (words other : SharedWords) (hashes : ℕ) (call : Call) (reply : Option Bool)

@@ -13,32 +13,32 @@ use Rattle.duplicates_engine.specs.Causes.{TellsRead, TellsOpen, TellsWrite, Tel
 use Rattle.duplicates_engine.specs.Inputs.{lines_in}
 use Rattle.duplicates_engine.proofs.Cases.{HoldsOfNone}
 
--- a read that failed is told with its kind, and as nothing else
+-- a read that failed is told with its kind, or as out of memory where that is its kind, and as
+-- nothing else
 read : TellsRead kind.BrokenPipe (Input kind.BrokenPipe)
     × HoldsOfNone (TellsRead kind.BrokenPipe) (Input kind.NotFound ∷ Memory ∷ TooLong 1 ∷ Full
     ∷ Open kind.BrokenPipe ∷ Output kind.BrokenPipe ∷ [])
+    × TellsRead kind.OutOfMemory Memory
+    × (TellsRead kind.OutOfMemory (Input kind.OutOfMemory) → ⊥)
 read = (
   (refl, λ is. cc),
   (λ is. cc (is.0), (λ is. cc is, (λ is. is, (λ is. is, (λ is. is, (λ is. is, tt)))))),
+  refl,
+  λ is. is.1 refl,
 )
-
--- where it ran out of memory, that is told
-read-memory : TellsRead kind.OutOfMemory Memory
-    × HoldsOfNone (TellsRead kind.OutOfMemory) (Input kind.OutOfMemory ∷ [])
-read-memory = (refl, (λ is. is.1 refl, tt))
 
 -- the same of an open
 opened : TellsOpen kind.NotFound (Open kind.NotFound)
     × HoldsOfNone (TellsOpen kind.NotFound) (Open kind.PermissionDenied ∷ Memory ∷ TooLong 1 ∷ Full
     ∷ Input kind.NotFound ∷ Output kind.NotFound ∷ [])
+    × TellsOpen kind.OutOfMemory Memory
+    × (TellsOpen kind.OutOfMemory (Open kind.OutOfMemory) → ⊥)
 opened = (
   (refl, λ is. cc),
   (λ is. cc (is.0), (λ is. cc is, (λ is. is, (λ is. is, (λ is. is, (λ is. is, tt)))))),
+  refl,
+  λ is. is.1 refl,
 )
-
-opened-memory : TellsOpen kind.OutOfMemory Memory
-    × HoldsOfNone (TellsOpen kind.OutOfMemory) (Open kind.OutOfMemory ∷ [])
-opened-memory = (refl, (λ is. is.1 refl, tt))
 
 -- a write is never out of memory
 write : TellsWrite kind.OutOfMemory (Output kind.OutOfMemory)
@@ -51,12 +51,12 @@ refusal : TellsRefusal (Filter filter.SizeOverflow) Full
     × HoldsOfNone (TellsRefusal (Filter filter.SizeOverflow)) (Memory ∷ TooLong 1
     ∷ Open kind.NotFound ∷ Input kind.NotFound ∷ Output kind.NotFound ∷ [])
     × TellsRefusal (Filter filter.Memory) Memory
-    × HoldsOfNone (TellsRefusal (Filter filter.Memory)) (Full ∷ [])
+    × (TellsRefusal (Filter filter.Memory) Full → ⊥)
 refusal = (
   λ is. cc,
   (λ is. cc is, (λ is. is, (λ is. is, (λ is. is, (λ is. is, tt))))),
   refl,
-  (λ is. is refl, tt),
+  λ is. is refl,
 )
 
 -- a sieve that refuses `b`, and inputs whose open finds nothing

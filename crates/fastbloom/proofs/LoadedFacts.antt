@@ -123,18 +123,24 @@ one = record {
   ordered = λ x is. subst (λ (most : Option ℕ). IfSome most (λ it. 1 ≤ it)) is (lit≤ tt);
 }
 
--- where no bit was set, an estimate of one item is wrong
-estimates : (is : EstimatesLoaded (shared 1 1 1) one) → is.ones ≡ 0 → ⊥
-estimates is empty = omega (arith, (is.estimates.none empty).0)
+-- an estimate is by the bits that were set as the words were loaded: where none was, one of one item
+-- is wrong
+estimates : (is : EstimatesLoaded (shared 1 1 1) one)
+    → CountsLoaded (shared 1 1 1).words is.ones × (is.ones ≡ 0 → ⊥)
+estimates is = (is.counts, λ empty. omega (arith, (is.estimates.none empty).0))
 
 -- one whole, which is the rate of no filter with a clear bit
 abbrev whole : Bracket
 whole = record { low = 0; high = 9223372036854775808; ordered = lit≤ tt; in_range = lit≤ tt }
 
--- where two of 64 bits were set, the upper bound for one hash is 1 / 32, and not one whole
-bounds : (is : BoundsLoaded (shared 1 1 1) whole) → is.ones ≡ 2 → ⊥
+-- and so is a bracket: where two of 64 bits were, its upper end for one hash is 1 / 32, and not one
+-- whole
+bounds : (is : BoundsLoaded (shared 1 1 1) whole)
+    → CountsLoaded (shared 1 1 1).words is.ones × (is.ones ≡ 2 → ⊥)
 unfolding rounded_power
-bounds is two =
-    let high : 9223372036854775808 ≡ 288230376151711744 =
-    is.bounds.high ∙ ap (λ ones. positives_high 64 1 ones) two in
-    omega (arith, high)
+bounds is = (
+  is.counts,
+  λ two. (let high : 9223372036854775808 ≡ 288230376151711744 =
+      is.bounds.high ∙ ap (λ ones. positives_high 64 1 ones) two in
+      omega (arith, high)),
+)
