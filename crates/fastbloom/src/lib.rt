@@ -4,7 +4,7 @@
 //!
 //! - `atomic`: `AtomicBloomFilter`, with its items, sets, words (`all_words`), data and rates.
 //! - `builder`: its builders, over the plain ones.
-//! - `parallel`: `fill`, by which workers fill one filter: its shape (`shape`), the work of one, and
+//! - `parallel`: `fill`, by which workers fill one filter: its shape (`shape`), the work of one and
 //!   the gate that it passes (`job`), and the work of all (`workers`).
 //! - `seated`: `SeatedBloomFilter`, whose words lie in a table of `atomic_table`: its calls
 //!   (`filter`), its rule (`rule`), the steps of passes (`steps`) and their loops (`looks`), how it

@@ -25,8 +25,8 @@ impl Model for RawWords {
     ghost also_shares = { λ w _ κ. said (words_lie w.at w.len) κ };
 }
 
-/// The same words, as C passes them: a pointer and a number. They are a type of their own, since the
-/// checker refuses an exported function whose words can be read through a `&`.
+/// The same words, as C passes them: a pointer and a number. They are a type of their own, because
+/// the checker refuses an exported function whose words can be read through a `&`.
 #[repr(C)]
 #[derive(Drop)]
 pub struct PassedWords {
@@ -57,8 +57,8 @@ fn make_lines(num_words: usize) -> bool
 }
 
 impl PassedWords {
-    /// The words, where they make a filter; else none, so that a call that refuses them has no words
-    /// to change.
+    /// The words, where they make a filter; else none, so that a call that refuses them has none to
+    /// change.
     #[inline(always)]
     pub fn filter(self) -> Option<RawWords>
         ensures given { IsSome result ↔ MakeFilter self.len }
