@@ -1,7 +1,6 @@
 mod CallFacts
 mod Cases
 mod DataLemmas
-mod DrawLawFacts
 mod FillFacts
 mod FillLawLemmas
 pub mod FillLemmas
