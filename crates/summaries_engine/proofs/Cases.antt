@@ -164,7 +164,7 @@ summary-line range =
 abbrev pub own : Lies
 own name read = read ≡ Some name
 
--- an input that is there is had
+-- no name fails: whatever has one can be had
 abbrev pub never : {E : Type 0} → List ℕ → E → Type 0
 never name error = ⊥
 
