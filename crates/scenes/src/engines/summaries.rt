@@ -113,8 +113,8 @@ fn is_reported(alloc: Global, ended: Result<(), Stop>, text: &str) -> bool {
     }
 }
 
-// Whether an act over the first bytes of its input writes and tells what its row says. A flush comes
-// before each read and open, and before the end where it ends well.
+// Whether an act over the first bytes of its input writes and tells what its row says. What was
+// written is flushed before each read and open, and at the end where the act ends well.
 fn is_right<R: Threads + Sync + AllocGlobal>(
     rt: &R,
     row: &Row,
