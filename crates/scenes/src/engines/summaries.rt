@@ -7,7 +7,7 @@ ghost use Rattle.std.specs.Prelude.{IfOk};
 ghost use Rattle.summaries_engine.specs.Answers.{IsKeyed};
 
 use super::faulty::{Seen, Sink, WHOLE};
-use crate::row_reports::{has_text, tell_row};
+use crate::telling::{has_text, tell_row};
 use odd::Odd;
 use rows::{A, ACTS, Act, Row, UNREAD, reading_of};
 use std::alloc::Global;
@@ -113,8 +113,8 @@ fn is_reported(alloc: Global, ended: Result<(), Stop>, text: &str) -> bool {
     }
 }
 
-// Whether an act over the first bytes of its input writes and tells what its row says. A flush
-// comes before each read and open, and before the end where it ends well.
+// Whether an act over the first bytes of its input writes and tells what its row says. What was
+// written is flushed before each read and open, and at the end where the act ends well.
 fn is_right<R: Threads + Sync + AllocGlobal>(
     rt: &R,
     row: &Row,
