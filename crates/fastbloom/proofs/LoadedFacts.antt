@@ -123,8 +123,8 @@ one = record {
   ordered = λ x is. subst (λ (most : Option ℕ). IfSome most (λ it. 1 ≤ it)) is (lit≤ tt);
 }
 
--- an estimate is by the bits that were set as the words were loaded: where none was, one of one item
--- is wrong
+-- an estimate is by the bits that were set as the words were loaded: where none was, one of one
+-- item is wrong
 estimates : (is : EstimatesLoaded (shared 1 1 1) one)
     → CountsLoaded (shared 1 1 1).words is.ones × (is.ones ≡ 0 → ⊥)
 estimates is = (is.counts, λ empty. omega (arith, (is.estimates.none empty).0))
