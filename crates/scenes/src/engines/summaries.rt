@@ -7,7 +7,7 @@ ghost use Rattle.std.specs.Prelude.{IfOk};
 ghost use Rattle.summaries_engine.specs.Answers.{IsKeyed};
 
 use super::faulty::{Seen, Sink, WHOLE};
-use crate::telling::{has_text, tell_row};
+use crate::row_reports::{has_text, tell_row};
 use odd::Odd;
 use rows::{A, ACTS, Act, Row, UNREAD, reading_of};
 use std::alloc::Global;
