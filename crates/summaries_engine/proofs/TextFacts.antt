@@ -9,7 +9,7 @@ use Rattle.bloom_parts.specs.Powers.{rounded_power}
 use Rattle.fastbloom.specs.Data.{DefaultFilter}
 use Rattle.summaries_engine.specs.declared.form.Form.TheVariants.{Sealed, Unsealed, Json}
 use Rattle.summaries_engine.specs.Facts.{TellsFilter, blocked_text, lines_text, rate_of_text}
-use Rattle.summaries_engine.specs.Scripts.{TellsScript, blocked_script, parts_script, rate_script}
+use Rattle.summaries_engine.specs.Scripts.{TellsScript, blocked_script, classic_script, parts_script, rate_script}
 use Rattle.summaries_engine.proofs.Cases.{from, from_to, line, made_of}
 
 -- two of 64 bits are set under the key of the bytes 0 to 15, and all under the zero key
@@ -67,15 +67,36 @@ script_of_all =
     ++ (codes "\"items_low\":9,\"items_high\":null,"
     ++ codes "\"rate_low\":1.000000000,\"rate_high\":1.000000000}\n"))
 
--- the same in JSON
+-- the same in JSON, with an estimate of the items
+tells-classic_script : (classic_script two_set Sealed (from_to 1 2 (lit≤ tt)) ≡ script_of_two)
+    × (classic_script all_set Json (from 9) ≡ script_of_all)
+    × (classic_script two_set Json (from_to 1 2 (lit≤ tt)) ≡ script_of_two → ⊥)
+unfolding parts_script rate_script padded_integral digits char_count content count_on rounded_power
+tells-classic_script = (
+  refl,
+  refl,
+  λ is.
+      let letter : ◌≡◌ {A = ℕ} 102 74 = ap (λ t. get_or t 26 0) is in
+      absurd (omega (arith, letter)),
+)
+
+-- the estimate has to be one of the filter's
 tells-script : (EstimatesItems 64 2 2 (from_to 1 2 (lit≤ tt))
     → TellsScript two_set Sealed script_of_two)
     × (EstimatesItems 64 2 64 (from 9) → TellsScript all_set Json script_of_all)
     × (TellsScript two_set Json script_of_two → ⊥)
 unfolding parts_script rate_script padded_integral digits char_count content count_on rounded_power
 tells-script = (
-  λ estimates. record { items = from_to 1 2 (lit≤ tt); estimates = estimates; is = refl },
-  λ estimates. record { items = from 9; estimates = estimates; is = refl },
+  λ estimates. record {
+    items = from_to 1 2 (lit≤ tt);
+    estimates = estimates;
+    is = tells-classic_script.0;
+  },
+  λ estimates. record {
+    items = from 9;
+    estimates = estimates;
+    is = tells-classic_script.1.0;
+  },
   λ told.
       let letter : ◌≡◌ {A = ℕ} 102 74 = ap (λ t. get_or t 26 0) told.is in
       absurd (omega (arith, letter)),
