@@ -12,7 +12,7 @@ mod gauge;
 mod run;
 mod telling;
 
-use clap::{ArgMatches, Error};
+use clap::Error;
 use command_line::{matched, misuse, request_of};
 use duplicates_engine::Fault;
 use std::process::ExitCode;
@@ -31,27 +31,19 @@ fn print(rt: &HostRuntime, error: &Error) -> u8 {
     }
 }
 
-// Says what the value of an option should have been, and returns the status.
-fn refuse(rt: &HostRuntime, text: &str) -> u8 {
-    print(rt, &misuse(rt.alloc(), text))
-}
-
-// What words that were read ask for is done; the status.
-fn serve_matched(rt: &HostRuntime, matches: &ArgMatches) -> u8 {
-    match request_of(matches) {
-        Ok(request) => match run::run(rt, &request) {
-            Ok(status) => status,
-            Err(text) => refuse(rt, text),
-        },
-        Err(text) => refuse(rt, text),
-    }
-}
-
 // What the words ask for is done; the status.
 fn serve(rt: &HostRuntime, words: &[String]) -> u8 {
-    match matched(rt.alloc(), words) {
-        Ok(matches) => serve_matched(rt, &matches),
-        Err(error) => print(rt, &error),
+    let matches = match matched(rt.alloc(), words) {
+        Ok(matches) => matches,
+        Err(error) => return print(rt, &error),
+    };
+    let ended = match request_of(&matches) {
+        Ok(request) => run::run(rt, &request),
+        Err(text) => Err(text),
+    };
+    match ended {
+        Ok(status) => status,
+        Err(text) => print(rt, &misuse(rt.alloc(), text)),
     }
 }
 
@@ -61,7 +53,7 @@ fn words_of(rt: &HostRuntime) -> std::io::Result<Vec<String>> {
 }
 
 // The program; the status.
-fn run_all(rt: &HostRuntime) -> u8 {
+fn status_of(rt: &HostRuntime) -> u8 {
     if let Err(error) = open_closed_streams(rt) {
         return tell_fault(rt, "/dev/null", true, 0, Fault::Open(error.kind()));
     }
@@ -79,5 +71,5 @@ fn run_all(rt: &HostRuntime) -> u8 {
 }
 
 fn main(rt: HostRuntime) -> ExitCode {
-    ExitCode::from(run_all(&rt))
+    ExitCode::from(status_of(&rt))
 }

@@ -10,8 +10,7 @@ use bloom_blocked::BlockedBloomFilter;
 use bloom_growing::{GrowingBlockedFilter, GrowingError, GrowingFilter, RotatingFilter};
 use bloom_plain::{BloomFilter, FilterError, Rate};
 use duplicates_engine::{Fault, Options, Sieve, Total, Written, keep_new};
-use program_parts::{Output, Writer, close, first_output, open_output};
-use std::fs::File;
+use program_parts::{close, first_output, open_output};
 use std::io;
 use std::io::{BufWriter, IsTerminal, Write};
 
@@ -91,16 +90,9 @@ fn sum_up<W: Write>(rt: &HostRuntime, request: &Request, total: Total, output: &
     DONE
 }
 
-// Sifts the inputs, and gives the status.
-fn sift<V: Sieve + Gauge, W: Write + Drop>(
-    rt: &HostRuntime,
-    request: &Request,
-    sieve: &mut V,
-    output: &mut W,
-) -> u8 {
-    let is_named = request.names.is_some();
-    let mut files = Files::new(rt, request.names);
-    let mut teller = Teller {
+// Whom a run tells how far it is, and warns.
+fn teller_of<'a>(rt: &'a HostRuntime, request: &Request) -> Teller<'a> {
+    Teller {
         rt,
         is_on: !request.quiet && rt.stderr().is_terminal(),
         held: if request.skips_longer {
@@ -110,8 +102,27 @@ fn sift<V: Sieve + Gauge, W: Write + Drop>(
         },
         items: request.items,
         is_warned: false,
+    }
+}
+
+// Sifts the inputs by a filter, if it was made, and gives the status.
+fn sift<V: Sieve + Gauge + Drop, W: Write + Drop>(
+    rt: &HostRuntime,
+    request: &Request,
+    made: Result<V, GrowingError>,
+    output: &mut W,
+) -> Result<u8, &'static str> {
+    let mut sieve = match made {
+        Ok(sieve) => sieve,
+        Err(GrowingError::Filter(FilterError::Memory)) => {
+            return Ok(tell_no_room(rt, "out of memory"));
+        }
+        Err(_) => return Err("there is no filter for this many lines at this rate"),
     };
-    match keep(rt, request, sieve, &mut files, output, &mut teller) {
+    let is_named = request.names.is_some();
+    let mut files = Files::new(rt, request.names);
+    let mut teller = teller_of(rt, request);
+    let status = match keep(rt, request, &mut sieve, &mut files, output, &mut teller) {
         Ok(total) => {
             let status = sum_up(rt, request, total, output);
             if teller.is_on {
@@ -125,21 +136,8 @@ fn sift<V: Sieve + Gauge, W: Write + Drop>(
         }
         Err(Fault::Output(kind)) => tell_unwritten(rt, request.output, kind),
         Err(fault) => tell_fault(rt, files.current(), is_named, request.longest, fault),
-    }
-}
-
-// Sifts the inputs by a filter, if it was made, and gives the status.
-fn sift_by<V: Sieve + Gauge + Drop, W: Write + Drop>(
-    rt: &HostRuntime,
-    request: &Request,
-    made: Result<V, GrowingError>,
-    output: &mut W,
-) -> Result<u8, &'static str> {
-    match made {
-        Ok(mut filter) => Ok(sift(rt, request, &mut filter, output)),
-        Err(GrowingError::Filter(FilterError::Memory)) => Ok(tell_no_room(rt, "out of memory")),
-        Err(_) => Err("there is no filter for this many lines at this rate"),
-    }
+    };
+    Ok(status)
 }
 
 // Whether the filter grows by blocked filters. Below this rate they take more than 1.3 times the
@@ -158,21 +156,21 @@ fn sift_by_filter<W: Write + Drop>(
     let items = request.items as usize;
     if let Some(last) = request.last {
         let made = RotatingFilter::seeded(alloc, rate, last as usize, seed);
-        sift_by(rt, request, made, output)
+        sift(rt, request, made, output)
     } else if request.blocked {
         let builder = BlockedBloomFilter::with_false_pos(rate).seed(seed);
         let made = builder.expected_items(alloc, items);
-        sift_by(rt, request, made.map_err(GrowingError::Filter), output)
+        sift(rt, request, made.map_err(GrowingError::Filter), output)
     } else if request.fixed {
         let builder = BloomFilter::with_false_pos(rate).seed(seed);
         let made = builder.expected_items(alloc, items);
-        sift_by(rt, request, made.map_err(GrowingError::Filter), output)
+        sift(rt, request, made.map_err(GrowingError::Filter), output)
     } else if grows_by_blocked(rate) {
         let made = GrowingBlockedFilter::seeded(alloc, rate, items, seed);
-        sift_by(rt, request, made, output)
+        sift(rt, request, made, output)
     } else {
         let made = GrowingFilter::seeded(alloc, rate, items, seed);
-        sift_by(rt, request, made, output)
+        sift(rt, request, made, output)
     }
 }
 
@@ -184,30 +182,21 @@ fn is_whole(ended: &Result<u8, &'static str>) -> bool {
     }
 }
 
-// Runs over the inputs, with an output that is open, and gives the status.
-fn run_into(
-    rt: &HostRuntime,
-    request: &Request,
-    output: Output<Writer<'_, HostRuntime, File>>,
-) -> Result<u8, &'static str> {
-    if let Some(name) = first_output(rt, &output, request.names.unwrap_or(&["-"])) {
-        return Ok(tell_output(rt, name));
-    }
-    let mut output = output;
-    let ended = sift_by_filter(rt, request, &mut output.writer);
-    match close(rt, output, is_whole(&ended)) {
-        Ok(()) => ended,
-        Err(error) => Ok(tell_unwritten(rt, request.output, error.kind())),
-    }
-}
-
 /// Runs over the inputs, and gives the status.
 ///
 /// # Errors
 /// Why there is no filter for this many lines at this rate.
 pub fn run(rt: &HostRuntime, request: &Request) -> Result<u8, &'static str> {
-    match open_output(rt, request.output) {
-        Ok(output) => run_into(rt, request, output),
+    let mut output = match open_output(rt, request.output) {
+        Ok(output) => output,
+        Err(error) => return Ok(tell_unwritten(rt, request.output, error.kind())),
+    };
+    if let Some(name) = first_output(rt, &output, request.names.unwrap_or(&["-"])) {
+        return Ok(tell_output(rt, name));
+    }
+    let ended = sift_by_filter(rt, request, &mut output.writer);
+    match close(rt, output, is_whole(&ended)) {
+        Ok(()) => ended,
         Err(error) => Ok(tell_unwritten(rt, request.output, error.kind())),
     }
 }

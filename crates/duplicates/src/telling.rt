@@ -38,13 +38,6 @@ pub struct Teller<'a> {
 }
 
 impl Progress for Teller<'_> {
-    ghost use Rattle.std.specs.Prelude.{None};
-
-    // Nothing is known of what a terminal shows.
-    ghost tells = { λ _. None };
-
-    ghost warnings = { λ _. None };
-
     fn tell(&mut self, tally: Tally) {
         if self.is_on {
             let _ = eprintln!(self.rt; "{} lines, {} {}", tally.read, tally.held, self.held);

@@ -3,6 +3,7 @@ use Rattle.std.specs.Prelude.{codes, ℕ, Bool, true, false, List, [], ◌∷◌
 use Rattle.duplicates_engine.specs.declared.fault.Fault.{Fault}
 use Rattle.duplicates_engine.specs.declared.options.Options.{Options}
 use Rattle.duplicates_engine.specs.declared.options.Written.{Written}
+use Rattle.duplicates_engine.specs.declared.tally.Total.{Total}
 
 -- three lines, of which the third came before
 abbrev pub lines : List (List ℕ)
@@ -32,6 +33,10 @@ asked longest written =
 -- these lines are asked for, and a longer line than a byte is passed on
 abbrev pub passing : Written → Options
 passing written = record { longest = 1; skips_longer = true; written = written; most = None }
+
+-- these counts of lines that were read, held back, and longer
+abbrev pub total : ℕ → ℕ → ℕ → Total
+total read held longer = record { tally = record { read = read; held = held }; longer = longer }
 
 -- it holds of none of these faults
 abbrev pub HoldsOfNone : (Fault → Type 0) → List Fault → Type 0

@@ -1,66 +1,24 @@
 -- Why a run ended, from the call that failed on.
-use Rattle.std.proofs.Common.{◌≤◌, ℕ, List, [], ◌∷◌, ◌++◌, length, Option, None, Some, refl, sym, ◌∙◌}
+use Rattle.std.proofs.Common.{◌≤◌, ℕ, List, [], ◌∷◌, ◌++◌, length, Option, None, Some, refl}
 use Rattle.std.specs.Prelude.{IfSome}
 use Rattle.std.specs.declared.io.ErrorKind.{ErrorKind}
 use Rattle.bloom_growing.specs.declared.growing.error.GrowingError.{GrowingError}
 use Rattle.lines.specs.Reading.{Ends}
 use Rattle.duplicates_engine.specs.declared.fault.Fault.{Fault}
 use Rattle.duplicates_engine.specs.declared.fault.Fault.TheVariants.{TooLong, Memory, Full, Open, Input, Output}
-use Rattle.duplicates_engine.specs.Causes.{TellsRead, FailsToOpen, FailsBehind, IsOfStep, AreOfFirst, RefusesLine, IsCaused}
+use Rattle.duplicates_engine.specs.Causes.{FailsToOpen, FailsBehind, IsOfStep, AreOfFirst, RefusesLine, IsCaused}
 use Rattle.duplicates_engine.specs.Faults.{IsOfSystem, IsOfWriter}
 use Rattle.duplicates_engine.specs.Inputs.{AreFirstRead}
 
--- the fault of a writer comes before a next line, whatever opens do
-pub writer-step : (opens : Fault → Type 0) (fault : Fault) → IsOfWriter fault
-    → IsOfStep opens fault
-writer-step opens (TooLong number) is = absurd is
-writer-step opens Memory is = absurd is
-writer-step opens Full is = absurd is
-writer-step opens (Open kind) is = absurd is
-writer-step opens (Input kind) is = absurd is
-writer-step opens (Output kind) is = tt
-
--- so does the fault of a read
-pub read-step : (opens : Fault → Type 0) (kind : ErrorKind) (fault : Fault)
-    → TellsRead kind fault → IsOfStep opens fault
-read-step opens kind (TooLong number) is = absurd is
-read-step opens kind Memory is = tt
-read-step opens kind Full is = absurd is
-read-step opens kind (Open told) is = absurd is
-read-step opens kind (Input told) is = λ same. is.1 (sym is.0 ∙ same)
-read-step opens kind (Output told) is = absurd is
-
-module _ {I : Type 0} (fails : I → I → ErrorKind → Type 0) where
-  -- an open that failed is memory or an open
-  pub open-step : (old new : I) (fault : Fault) → FailsToOpen fails old new fault
-      → IsOfStep (FailsToOpen fails old new) fault
-  open-step old new (TooLong number) is = absurd is.told
-  open-step old new Memory is = tt
-  open-step old new Full is = absurd is.told
-  open-step old new (Open kind) is = is
-  open-step old new (Input kind) is = absurd is.told
-  open-step old new (Output kind) is = absurd is.told
-
-  -- it is no long line
-  pub opening-system : (old new : I) (fault : Fault) → FailsToOpen fails old new fault
-      → IsOfSystem fault
-  opening-system old new (TooLong number) is = absurd is.told
-  opening-system old new Memory is = tt
-  opening-system old new Full is = absurd is.told
-  opening-system old new (Open kind) is = tt
-  opening-system old new (Input kind) is = absurd is.told
-  opening-system old new (Output kind) is = absurd is.told
-
-  -- behind an input that has ended
-  pub behind-step : (left last : Option (List ℕ)) (old new : I) (fault : Fault) → Ends left last
-      → IsOfStep (FailsToOpen fails old new) fault → IsOfStep (FailsBehind fails left old new) fault
-  behind-step left last old new (TooLong number) ends is = absurd is
-  behind-step left last old new Memory ends is = tt
-  behind-step left last old new Full ends is = absurd is
-  behind-step left last old new (Open kind) ends is =
-      record { last = last; ends = ends; opening = is }
-  behind-step left last old new (Input kind) ends is = is
-  behind-step left last old new (Output kind) ends is = tt
+-- an open that failed is no long line
+pub opening-system : {I : Type 0} (fails : I → I → ErrorKind → Type 0) (old new : I)
+    (fault : Fault) → FailsToOpen fails old new fault → IsOfSystem fault
+opening-system fails old new (TooLong number) is = absurd is.told
+opening-system fails old new Memory is = tt
+opening-system fails old new Full is = absurd is.told
+opening-system fails old new (Open kind) is = tt
+opening-system fails old new (Input kind) is = absurd is.told
+opening-system fails old new (Output kind) is = absurd is.told
 
 -- a fault before the next line is no long line
 pub step-system : (opens : Fault → Type 0) (fault : Fault) → IsOfStep opens fault

@@ -1,19 +1,18 @@
 -- What a flush behind a run leaves of its promises.
-use Rattle.std.proofs.Common.{ℕ, Bool, List, Option, Result, Ok, Err, refl}
+use Rattle.std.proofs.Common.{ℕ, List, Option, Result, Ok, Err, refl}
 use Rattle.std.specs.Prelude.{IfOk, IfErr}
 use Rattle.std.specs.Io.KnownBytes.{Keeps}
 use Rattle.std.proofs.KnownBytes.{Appends-kept}
 use Rattle.lines.proofs.WritingLemmas.{Begins-whole}
 use Rattle.std.specs.declared.io.ErrorKind.{ErrorKind}
-use Rattle.bloom_growing.specs.declared.growing.error.GrowingError.{GrowingError}
 use Rattle.duplicates_engine.specs.declared.fault.Fault.{Fault}
 use Rattle.duplicates_engine.specs.declared.fault.Fault.TheVariants.{TooLong, Memory, Full, Open, Input, Output}
 use Rattle.duplicates_engine.specs.declared.options.Options.{Options}
-use Rattle.duplicates_engine.specs.declared.tally.Tally.{Tally}
+use Rattle.duplicates_engine.specs.declared.sieve.Sieve.{Ghosts}
 use Rattle.duplicates_engine.specs.declared.tally.Total.{Total}
 use Rattle.duplicates_engine.specs.Faults.{IsOfWriter, IsReadAt}
 use Rattle.duplicates_engine.specs.Inputs.{AreFirstRead}
-use Rattle.duplicates_engine.specs.Kept.{text_of, EndsEarly, KeepsNew, KeepsUntil}
+use Rattle.duplicates_engine.specs.Kept.{text_of, EndsEarly, KeepsNew}
 use Rattle.duplicates_engine.specs.Longer.{limit_of}
 use Rattle.duplicates_engine.proofs.CauseLemmas.{caused-writer}
 use Rattle.duplicates_engine.proofs.EndLemmas.{first-all, first-long}
@@ -29,18 +28,14 @@ first-lines end longest (Open kind) come lines is = is
 first-lines end longest (Input kind) come lines is = is
 first-lines end longest (Output kind) come lines is = is
 
-module _ {V : Type 0} (span : V → Option ℕ) (recalls : V → List (List ℕ) → Type 0)
-    (sifts : V → List ℕ → Bool → V → Type 0)
-    (end : ℕ) (options : Options) (come : Option (List (List ℕ))) (old new : V)
-    (from to kept : Option (List ℕ)) (before after calm warned : Option (List Tally))
+module _ {V : Type 0} (sieve : Ghosts V) (end : ℕ) (options : Options)
+    (come : Option (List (List ℕ))) (old new : V) (from to kept : Option (List ℕ))
     (keeps : Keeps to kept) where
-  -- a flush changes nothing
-  pub all-flushed : (left : Option (List (List ℕ))) (total : Total)
-      → KeepsNew span recalls sifts end options come left old new from to before after calm warned
-      total
-      → KeepsNew span recalls sifts end options come left old new from kept before after calm
-      warned total
-  all-flushed left total run = record {
+  -- a flush changes nothing of a run that went well
+  pub all-flushed : (left : Option (List (List ℕ))) (result : Result Total Fault)
+      → IfOk result (KeepsNew sieve end options come left old new from to)
+      → IfOk result (KeepsNew sieve end options come left old new from kept)
+  all-flushed left (Ok total) run = record {
     lines = run.lines;
     replies = run.replies;
     sifted = run.sifted;
@@ -48,129 +43,74 @@ module _ {V : Type 0} (span : V → Option ℕ) (recalls : V → List (List ℕ)
     whole = run.whole;
     short = run.short;
     counts = run.counts;
-    longer = run.longer;
-    tells = run.tells;
-    warns = run.warns;
   }
+  all-flushed left (Err fault) run = tt
 
-  pub until-flushed : (fault : Fault)
-      → KeepsUntil span recalls sifts end options come old new from to before after calm warned
-      fault
-      → KeepsUntil span recalls sifts end options come old new from kept before after calm warned
-      fault
-  until-flushed fault run = record {
-    lines = run.lines;
-    replies = run.replies;
-    sifted = run.sifted;
-    written = run.written;
-    text = Appends-kept from to kept _ run.text keeps;
-    is_text = run.is_text;
-    reached = run.reached;
-    short = run.short;
-    tells = run.tells;
-    warns = run.warns;
-  }
-
-  module _ (fault : Fault) (is : IsOfWriter fault) where
-    -- where the flush behind a whole run fails, the run ended at that
-    pub all-broken : (left : Option (List (List ℕ))) (total : Total)
-        → KeepsNew span recalls sifts end options come left old new from to before after calm
-        warned total
-        → KeepsUntil span recalls sifts end options come old new from kept before after calm warned
-        fault
-    all-broken left total run =
-        let text = text_of end options run.lines run.replies in
+  module _ {I : Type 0} (fails : I → I → ErrorKind → Type 0) (inputs : I) where
+    -- nor of one that ended early
+    pub ends-flushed : {A : Type 0} (result : Result A Fault)
+        → IfErr result (EndsEarly sieve fails end options come inputs old new from to)
+        → IfErr result (EndsEarly sieve fails end options come inputs old new from kept)
+    ends-flushed (Ok value) ends = tt
+    ends-flushed (Err fault) ends =
+        let run = ends.until in
         record {
-          lines = run.lines;
-          replies = run.replies;
-          sifted = run.sifted;
-          written = text;
-          text = Appends-kept from to kept _ run.text keeps;
-          is_text = from-begins fault text text is (Begins-whole text text refl);
-          reached =
-              reached-at end (limit_of options) fault come run.lines (writer-system fault is)
-              (first-all end come left run.lines run.whole);
-          short = run.short;
-          tells = run.tells;
-          warns = run.warns;
+          until = record {
+            lines = run.lines;
+            replies = run.replies;
+            sifted = run.sifted;
+            written = run.written;
+            text = Appends-kept from to kept _ run.text keeps;
+            is_text = run.is_text;
+            reached = run.reached;
+            short = run.short;
+          };
+          caused = ends.caused;
         }
 
-    -- where the flush behind a run up to a fault fails, the run ended at the later fault
-    pub until-broken : (first : Fault)
-        → KeepsUntil span recalls sifts end options come old new from to before after calm warned
-        first
-        → KeepsUntil span recalls sifts end options come old new from kept before after calm warned
-        fault
-    until-broken first run =
+    -- whatever came first, where the flush fails the run ended at that
+    pub broken : (left : Option (List (List ℕ))) (fault : Fault) (is : IsOfWriter fault)
+        (result : Result Total Fault)
+        → IfOk result (KeepsNew sieve end options come left old new from to)
+        → IfErr result (EndsEarly sieve fails end options come inputs old new from to)
+        → EndsEarly sieve fails end options come inputs old new from kept fault
+    broken left fault is (Ok total) run ends =
         let text = text_of end options run.lines run.replies in
         record {
-          lines = run.lines;
-          replies = run.replies;
-          sifted = run.sifted;
-          written = run.written;
-          text = Appends-kept from to kept _ run.text keeps;
-          is_text =
-              from-begins fault text run.written is (to-begins first text run.written run.is_text);
-          reached =
-              reached-at end (limit_of options) fault come run.lines (writer-system fault is)
-              (first-lines end (limit_of options) first come run.lines run.reached);
-          short = run.short;
-          tells = run.tells;
-          warns = run.warns;
+          until = record {
+            lines = run.lines;
+            replies = run.replies;
+            sifted = run.sifted;
+            written = text;
+            text = Appends-kept from to kept _ run.text keeps;
+            is_text = from-begins fault text text is (Begins-whole text text refl);
+            reached =
+                reached-at end (limit_of options) fault come run.lines (writer-system fault is)
+                (first-all end come left run.lines run.whole);
+            short = run.short;
+          };
+          caused =
+              caused-writer sieve.refuses fails end options.longest come new run.lines inputs fault
+              is;
         }
-
-module _ {V I : Type 0} (span : V → Option ℕ) (recalls : V → List (List ℕ) → Type 0)
-    (sifts : V → List ℕ → Bool → V → Type 0)
-    (refuses : V → List ℕ → GrowingError → Type 0) (fails : I → I → ErrorKind → Type 0)
-    (end : ℕ) (options : Options) (come : Option (List (List ℕ))) (inputs : I) (old new : V)
-    (from to kept : Option (List ℕ)) (before after calm warned : Option (List Tally))
-    (keeps : Keeps to kept) where
-  -- a run that ended early did so behind a flush too
-  pub ends-flushed : {A : Type 0} (result : Result A Fault)
-      → IfErr result
-      (EndsEarly span recalls sifts refuses fails end options come inputs old new from to before
-      after calm
-      warned)
-      → IfErr result
-      (EndsEarly span recalls sifts refuses fails end options come inputs old new from kept before
-      after calm
-      warned)
-  unfolding until-flushed
-  ends-flushed (Ok value) ends = tt
-  ends-flushed (Err fault) ends = record {
-    until =
-        until-flushed span recalls sifts end options come old new from to kept before after calm
-        warned keeps
-        fault ends.until;
-    caused = ends.caused;
-  }
-
-  -- whatever came first, where the flush fails the run ended at that
-  pub broken : (fault : Fault) (is : IsOfWriter fault) (left : Option (List (List ℕ)))
-      (result : Result Total Fault)
-      → IfOk result
-      (KeepsNew span recalls sifts end options come left old new from to before after calm warned)
-      → IfErr result
-      (EndsEarly span recalls sifts refuses fails end options come inputs old new from to before
-      after calm
-      warned)
-      → EndsEarly span recalls sifts refuses fails end options come inputs old new from kept before
-      after
-      calm warned fault
-  unfolding all-broken until-broken
-  broken fault is left (Ok total) all ends = record {
-    until =
-        all-broken span recalls sifts end options come old new from to kept before after calm
-        warned keeps
-        fault is left total all;
-    caused =
-        caused-writer refuses fails end options.longest come new all.lines inputs fault is;
-  }
-  broken fault is left (Err first) all ends = record {
-    until =
-        until-broken span recalls sifts end options come old new from to kept before after calm
-        warned keeps
-        fault is first ends.until;
-    caused =
-        caused-writer refuses fails end options.longest come new ends.until.lines inputs fault is;
-  }
+    broken left fault is (Err first) all ends =
+        let run = ends.until in
+        let text = text_of end options run.lines run.replies in
+        record {
+          until = record {
+            lines = run.lines;
+            replies = run.replies;
+            sifted = run.sifted;
+            written = run.written;
+            text = Appends-kept from to kept _ run.text keeps;
+            is_text =
+                from-begins fault text run.written is (to-begins first text run.written run.is_text);
+            reached =
+                reached-at end (limit_of options) fault come run.lines (writer-system fault is)
+                (first-lines end (limit_of options) first come run.lines run.reached);
+            short = run.short;
+          };
+          caused =
+              caused-writer sieve.refuses fails end options.longest come new run.lines inputs fault
+              is;
+        }

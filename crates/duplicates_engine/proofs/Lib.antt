@@ -5,10 +5,10 @@ mod CauseFacts
 mod CauseLemmas
 mod ChoiceFacts
 mod ChoiceLemmas
+mod CountLemmas
 mod EndLemmas
 mod FlushLemmas
 mod GrownLemmas
-mod HalfwayLemmas
 mod HashFacts
 mod InputFacts
 mod InputLemmas
@@ -18,12 +18,9 @@ mod LineStepLemmas
 mod LongerLemmas
 mod PlaceLemmas
 mod PlainLemmas
-mod ProgressFacts
-mod ProgressLemmas
 mod RotatingLemmas
 mod RunFacts
 mod SieveFacts
 mod SiftLemmas
 mod TextLemmas
-mod WarnLemmas
 mod WriteLemmas

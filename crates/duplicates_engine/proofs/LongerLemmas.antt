@@ -1,5 +1,5 @@
--- Longer lines, counted one after the other.
-use Rattle.std.proofs.Common.{◌≡◌, ℕ, ◌+◌, ◌-◌, ◌^◌, min, Bool, true, false, not, cond, List, [], ◌∷◌, ◌++◌, length, drop, take, ◌<◌, ◌≤◌, refl, ap, arith}
+-- Longer lines, and the lines that aren't.
+use Rattle.std.proofs.Common.{◌≡◌, ℕ, ◌+◌, Bool, true, false, not, cond, List, ◌∷◌, ◌++◌, length, drop, take, ◌<◌, ◌≤◌, refl, ap, arith}
 use Rattle.std.proofs.lemmas.Bool.{lt-ltb, le-ltb}
 use Rattle.std.proofs.lemmas.List.{length-drop, length-take}
 use Rattle.std.proofs.lemmas.List.Elements.{filter-append}
@@ -7,38 +7,7 @@ use Rattle.std.proofs.lemmas.List.Filters.{length-filter_both}
 use Rattle.std.proofs.lemmas.Map.Made.{distinct_count-le}
 use Rattle.std.specs.Str.{bytes_eq}
 use Rattle.duplicates_engine.specs.Choices.{AllLinesLaw, LastLinesLaw}
-use Rattle.duplicates_engine.specs.Longer.{is_longer, longer_lines, short_lines}
-
--- one more in front of a sum
-in-front : (b : Bool) (first last all : ℕ) → all ≡ first + last
-    → cond b (all + 1) all ≡ cond b (first + 1) first + last
-in-front true first last all is = omega (arith, is)
-in-front false first last all is = is
-
--- how many more one line is
-longer-join : (longest : ℕ) (lines : List (List ℕ)) (line : List ℕ)
-    → longer_lines longest (lines ++ line ∷ [])
-    ≡ longer_lines longest lines + longer_lines longest (line ∷ [])
-longer-join longest [] line = omega arith
-longer-join longest (l ∷ lines) line =
-    in-front (is_longer longest l) (longer_lines longest lines)
-    (longer_lines longest (line ∷ [])) (longer_lines longest (lines ++ line ∷ []))
-    (longer-join longest lines line)
-
--- the count stays at 2^64 - 1
-counted : (b : Bool) (lines longer most : ℕ) → longer ≡ min lines (2 ^ 64 - 1)
-    → most ≡ cond b (min (longer + 1) (2 ^ 64 - 1)) longer
-    → most ≡ min (lines + cond b 1 0) (2 ^ 64 - 1)
-counted true lines longer most is now = omega (arith, is, now)
-counted false lines longer most is now = omega (arith, is, now)
-
-pub longer-more : (longest : ℕ) (lines : List (List ℕ)) (line : List ℕ) (longer most : ℕ)
-    → longer ≡ min (longer_lines longest lines) (2 ^ 64 - 1)
-    → most ≡ cond (is_longer longest line) (min (longer + 1) (2 ^ 64 - 1)) longer
-    → most ≡ min (longer_lines longest (lines ++ line ∷ [])) (2 ^ 64 - 1)
-longer-more longest lines line longer most is now =
-    rw (longer-join longest lines line)
-    (counted (is_longer longest line) (longer_lines longest lines) longer most is now)
+use Rattle.duplicates_engine.specs.Longer.{is_longer, short_lines}
 
 -- a line is longer where it has more bytes, and only there
 pub longer-is : (longest : ℕ) (line : List ℕ) → longest < length line

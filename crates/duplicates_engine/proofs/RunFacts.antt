@@ -1,41 +1,42 @@
 -- Whole runs, and runs up to a fault: of each relation cases that hold, and the nearest that don't.
-use Rattle.std.proofs.Common.{◌≡◌, ◌≤◌, ℕ, Bool, List, [], ◌∷◌, ◌++◌, length, get_or, Option, None, Some, refl, sym, ◌∙◌, ap, arith}
+use Rattle.std.proofs.Common.{◌≡◌, ◌≤◌, ℕ, Bool, List, [], ◌∷◌, ◌++◌, length, get_or, Some, refl, ◌∙◌, ap, arith}
 use Rattle.std.proofs.lemmas.List.Elements.{All-from_recursion, All-nil}
 use Rattle.std.specs.Prelude.{codes}
 use Rattle.lines.specs.Lines.{lines_by}
-use Rattle.bloom_growing.specs.declared.growing.error.GrowingError.{GrowingError}
 use Rattle.std.specs.declared.io.ErrorKind.{ErrorKind}
 use Rattle.duplicates_engine.specs.declared.fault.Fault.{Fault}
 use Rattle.duplicates_engine.specs.declared.fault.Fault.TheVariants.{Full, Memory}
 use Rattle.duplicates_engine.specs.declared.options.Written.TheVariants.{New}
-use Rattle.duplicates_engine.specs.declared.tally.Tally.{Tally}
+use Rattle.duplicates_engine.specs.declared.sieve.Sieve.{Ghosts}
+use Rattle.duplicates_engine.specs.declared.tally.Total.{Total}
 use Rattle.duplicates_engine.specs.Inputs.{lines_in}
 use Rattle.duplicates_engine.specs.Kept.{text_of, KeepsNew, EndsEarly}
-use Rattle.duplicates_engine.proofs.Cases.{asked, lines}
+use Rattle.duplicates_engine.proofs.Cases.{asked, lines, total}
 use Rattle.duplicates_engine.proofs.SieveFacts.{keeps, recalls_none, sifted-all}
 use Rattle.duplicates_engine.proofs.SiftLemmas.{sifted-nil}
 
--- a sieve that tells of a line while none other came behind it
-abbrev span : List (List ℕ) → Option ℕ
-span sieve = Some 1
+-- a sieve that tells of a line while none other came behind it, and refuses none
+abbrev sieve : Ghosts (List (List ℕ))
+sieve = record {
+  span = λ _. Some 1;
+  recalls = recalls_none;
+  sifts = keeps;
+  refuses = λ _ _ _. ⊥;
+  has_hash = λ _ _ _. ⊥;
+}
 
 -- a whole run with such a sieve, which called new all that it sifted, and with these counts
-abbrev Kept : ℕ → List (List ℕ) → List (List ℕ) → List (List ℕ) → List ℕ → Tally → ℕ → Type 0
-Kept longest come left sieve text tally longer =
-    KeepsNew span recalls_none keeps 10 (asked longest New) (Some come) (Some left) [] sieve
-    (Some []) (Some text) None None None None (record { tally = tally; longer = longer })
+abbrev Kept : ℕ → List (List ℕ) → List (List ℕ) → List (List ℕ) → List ℕ → Total → Type 0
+Kept longest come left sifted text counted =
+    KeepsNew sieve 10 (asked longest New) (Some come) (Some left) [] sifted (Some []) (Some text)
+    counted
 
 -- three lines are read and written, and all are counted; no input is left, and no line is longer
 -- than a line may be
-kept : Kept 9 (codes "a\nb\n" ∷ codes "a" ∷ []) [] lines (codes "a\nb\na\n")
-    (record { read = 3; held = 0 }) 0
-    × (Kept 9 (codes "a\nb\n" ∷ codes "a" ∷ []) [] lines (codes "a\nb\na\n")
-    (record { read = 2; held = 0 }) 0 → ⊥)
-    × (Kept 9 (codes "a\nb\n" ∷ codes "a" ∷ []) [] lines (codes "a\nb\na\n")
-    (record { read = 3; held = 0 }) 1 → ⊥)
-    × (Kept 9 [] (codes "a" ∷ []) [] [] (record { read = 0; held = 0 }) 0 → ⊥)
-    × (Kept 0 (codes "a" ∷ []) [] (codes "a" ∷ []) (codes "a\n") (record { read = 1; held = 0 }) 0
-    → ⊥)
+kept : Kept 9 (codes "a\nb\n" ∷ codes "a" ∷ []) [] lines (codes "a\nb\na\n") (total 3 0 0)
+    × (Kept 9 (codes "a\nb\n" ∷ codes "a" ∷ []) [] lines (codes "a\nb\na\n") (total 2 0 0) → ⊥)
+    × (Kept 9 [] (codes "a" ∷ []) [] [] (total 0 0 0) → ⊥)
+    × (Kept 0 (codes "a" ∷ []) [] (codes "a" ∷ []) (codes "a\n") (total 1 0 0) → ⊥)
 unfolding lines_by
 kept = (
   record {
@@ -46,13 +47,9 @@ kept = (
     whole = record { are_lines = refl; none_left = refl };
     short = All-from_recursion (λ line. length line ≤ 9) lines
         (omega arith, (omega arith, (omega arith, tt)));
-    counts = record { read = refl; held = refl };
-    longer = refl;
-    tells = tt;
-    warns = refl;
+    counts = record { read = refl; held = refl; longer = refl };
   },
-  λ run. omega (arith, run.sifted.count, ap length run.whole.are_lines, run.counts.read),
-  λ run. (let none : 1 ≡ 0 = (rw (sym run.whole.are_lines) at run.longer) in omega (arith, none)),
+  λ run. omega (arith, ap length run.whole.are_lines, run.counts.read),
   λ run. cc (run.whole.none_left),
   λ run. (let first : codes "a" ≡ get_or run.lines 0 [] =
       ap (λ l. get_or l 0 []) run.whole.are_lines in
@@ -60,18 +57,14 @@ kept = (
       omega (arith, ap length first, run.short 0 [] (omega (arith, one)))),
 )
 
--- a sieve that refuses nothing, and inputs that open
-abbrev refuses : List (List ℕ) → List ℕ → GrowingError → Type 0
-refuses sieve line error = ⊥
-
+-- inputs that open
 abbrev fails : Unit {0} → Unit {0} → ErrorKind → Type 0
 fails old new kind = ⊥
 
 -- a run that ended early, before it sifted a line
 abbrev Ended : List (List ℕ) → List ℕ → Fault → Type 0
 Ended come text fault =
-    EndsEarly span recalls_none keeps refuses fails 10 (asked 1 New) (Some come) tt [] []
-    (Some []) (Some text) None None None None fault
+    EndsEarly sieve fails 10 (asked 1 New) (Some come) tt [] [] (Some []) (Some text) fault
 
 -- it may be out of memory, and isn't full where its sieve refuses nothing; and it wrote no line
 -- that it didn't read
@@ -83,14 +76,12 @@ ended = (
     until = record {
       lines = [];
       replies = [];
-      sifted = sifted-nil span recalls_none keeps 1 [];
+      sifted = sifted-nil sieve.span recalls_none keeps 1 [];
       written = [];
       text = refl;
       is_text = refl;
       reached = record { later = lines_in 10 (codes "a\n" ∷ []); cut = refl };
       short = All-nil (λ line. length line ≤ 1);
-      tells = tt;
-      warns = refl;
     };
     caused = tt;
   },

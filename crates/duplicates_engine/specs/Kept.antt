@@ -1,22 +1,21 @@
 -- Which lines a run wrote, and which it didn't. What a writer holds is Some of the bytes, or None
 -- where it doesn't tell.
-use Rattle.std.specs.Prelude.{◌≡◌, ℕ, ◌-◌, ◌^◌, min, Bool, false, not, ◌&&◌, ◌||◌, if◌then◌else◌, List, [], ◌∷◌, ◌++◌, flat_map, Option, Result, MatchResult}
+use Rattle.std.specs.Prelude.{◌≡◌, ℕ, Bool, false, not, ◌&&◌, ◌||◌, if◌then◌else◌, List, [], ◌∷◌, ◌++◌, flat_map, Option, Result, MatchResult}
 use Rattle.std.specs.Io.KnownBytes.{Appends}
 use Rattle.lines.specs.Reading.{AreShort}
 use Rattle.std.specs.declared.io.ErrorKind.{ErrorKind}
-use Rattle.bloom_growing.specs.declared.growing.error.GrowingError.{GrowingError}
 use Rattle.duplicates_engine.specs.Causes.{IsCaused}
+use Rattle.duplicates_engine.specs.Counts.{Counts}
 use Rattle.duplicates_engine.specs.declared.fault.Fault.{Fault}
 use Rattle.duplicates_engine.specs.declared.options.Options.{Options}
 use Rattle.duplicates_engine.specs.declared.options.Written.{Written}
 use Rattle.duplicates_engine.specs.declared.options.Written.TheVariants.{New, HeldBack, Nothing}
-use Rattle.duplicates_engine.specs.declared.tally.Tally.{Tally}
+use Rattle.duplicates_engine.specs.declared.sieve.Sieve.{Ghosts}
 use Rattle.duplicates_engine.specs.declared.tally.Total.{Total}
 use Rattle.duplicates_engine.specs.Faults.{IsOfWriter, IsWrittenAt, IsReadAt}
 use Rattle.duplicates_engine.specs.Inputs.{AreAllRead}
-use Rattle.duplicates_engine.specs.Longer.{is_longer, limit_of, longer_lines}
+use Rattle.duplicates_engine.specs.Longer.{is_longer, limit_of}
 use Rattle.duplicates_engine.specs.Sieves.{HasSifted}
-use Rattle.duplicates_engine.specs.Progress.{Counts, TellsOf, WarnsOf}
 
 -- whether a line is written, by whether it is longer than a line may be, and by its reply: a longer
 -- one is passed on with the new lines
@@ -46,52 +45,39 @@ lines_text end lines = flat_map (λ line. line ++ end ∷ []) lines
 abbrev pub text_of : ℕ → Options → List (List ℕ) → List Bool → List ℕ
 text_of end options lines replies = lines_text end (chosen options lines replies)
 
--- a whole run: all lines of the inputs were sifted, but for longer ones, the chosen ones were
--- written, each million of them was told, and a warning where there were too many new ones
-pub record KeepsNew {V : Type 0} (span : V → Option ℕ)
-    (recalls : V → List (List ℕ) → Type 0)
-    (sifts : V → List ℕ → Bool → V → Type 0) (end : ℕ) (options : Options)
+-- a whole run: all lines of the inputs were sifted, but for longer ones, and the chosen ones were
+-- written
+pub record KeepsNew {V : Type 0} (sieve : Ghosts V) (end : ℕ) (options : Options)
     (come left : Option (List (List ℕ))) (old new : V) (from to : Option (List ℕ))
-    (before after calm warned : Option (List Tally)) (total : Total) : Type 0 where
+    (total : Total) : Type 0 where
   pub lines : List (List ℕ)
   pub replies : List Bool
-  pub sifted : HasSifted span recalls sifts options.longest old new lines replies
+  pub sifted : HasSifted sieve.span sieve.recalls sieve.sifts options.longest old new lines replies
   pub text : Appends from to (text_of end options lines replies)
   pub whole : AreAllRead end come left lines
   pub short : AreShort (limit_of options) lines
-  pub counts : Counts replies total.tally
-  pub longer : total.longer ≡ min (longer_lines options.longest lines) (2 ^ 64 - 1)
-  pub tells : TellsOf before after replies
-  pub warns : WarnsOf options.most calm warned replies
+  pub counts : Counts options.longest lines replies total
 
 -- a run up to a fault: the first lines of the inputs were sifted, and the chosen ones were written,
 -- at a fault of the writer as far as it took them
-pub record KeepsUntil {V : Type 0} (span : V → Option ℕ)
-    (recalls : V → List (List ℕ) → Type 0)
-    (sifts : V → List ℕ → Bool → V → Type 0) (end : ℕ) (options : Options)
-    (come : Option (List (List ℕ))) (old new : V) (from to : Option (List ℕ))
-    (before after calm warned : Option (List Tally)) (fault : Fault) : Type 0 where
+pub record KeepsUntil {V : Type 0} (sieve : Ghosts V) (end : ℕ) (options : Options)
+    (come : Option (List (List ℕ))) (old new : V) (from to : Option (List ℕ)) (fault : Fault)
+    : Type 0 where
   pub lines : List (List ℕ)
   pub replies : List Bool
-  pub sifted : HasSifted span recalls sifts options.longest old new lines replies
+  pub sifted : HasSifted sieve.span sieve.recalls sieve.sifts options.longest old new lines replies
   pub written : List ℕ
   pub text : Appends from to written
   pub is_text : IsWrittenAt fault (text_of end options lines replies) written
   pub reached : IsReadAt end (limit_of options) fault come lines
   pub short : AreShort (limit_of options) lines
-  pub tells : TellsOf before after replies
-  pub warns : WarnsOf options.most calm warned replies
 
 -- the same, and why the run ended behind those lines
-pub record EndsEarly {V I : Type 0} (span : V → Option ℕ)
-    (recalls : V → List (List ℕ) → Type 0)
-    (sifts : V → List ℕ → Bool → V → Type 0) (refuses : V → List ℕ → GrowingError → Type 0)
-    (fails : I → I → ErrorKind → Type 0) (end : ℕ) (options : Options)
-    (come : Option (List (List ℕ))) (inputs : I) (old new : V) (from to : Option (List ℕ))
-    (before after calm warned : Option (List Tally)) (fault : Fault) : Type 0 where
-  pub until : KeepsUntil span recalls sifts end options come old new from to before after calm
-      warned fault
-  pub caused : IsCaused refuses fails end options.longest come until.lines new inputs fault
+pub record EndsEarly {V I : Type 0} (sieve : Ghosts V) (fails : I → I → ErrorKind → Type 0)
+    (end : ℕ) (options : Options) (come : Option (List (List ℕ))) (inputs : I) (old new : V)
+    (from to : Option (List ℕ)) (fault : Fault) : Type 0 where
+  pub until : KeepsUntil sieve end options come old new from to fault
+  pub caused : IsCaused sieve.refuses fails end options.longest come until.lines new inputs fault
 
 -- what one line writes that had this reply
 abbrev pub piece : ℕ → Options → List ℕ → Bool → List ℕ

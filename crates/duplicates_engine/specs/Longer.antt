@@ -1,16 +1,10 @@
 -- Lines that have more bytes than a line may have.
-use Rattle.std.specs.Prelude.{ℕ, ◌+◌, ◌-◌, ◌^◌, Bool, not, nat_lt, if◌then◌else◌, List, [], ◌∷◌, length, filter}
+use Rattle.std.specs.Prelude.{ℕ, ◌-◌, ◌^◌, Bool, not, nat_lt, if◌then◌else◌, List, [], ◌∷◌, length, filter}
 use Rattle.duplicates_engine.specs.declared.options.Options.{Options}
 
 -- whether a line has more bytes than a line may have
 abbrev pub is_longer : ℕ → List ℕ → Bool
 is_longer longest line = nat_lt longest (length line)
-
--- how many lines have more
-abbrev pub longer_lines : ℕ → List (List ℕ) → ℕ
-longer_lines longest [] = 0
-longer_lines longest (line ∷ lines) =
-    if is_longer longest line then longer_lines longest lines + 1 else longer_lines longest lines
 
 -- how many bytes a line may have that is read: where longer lines are passed on, any number
 abbrev pub limit_of : Options → ℕ

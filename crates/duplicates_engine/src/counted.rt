@@ -1,31 +1,15 @@
 //! Counting a line, and telling what there is to tell of it.
-ghost use Rattle.std.specs.Prelude.{◌≡◌, ◌+◌, ◌-◌, ◌^◌, min, if◌then◌else◌};
-ghost use Rattle.duplicates_engine.specs.Progress.{CountsLine};
+ghost use Rattle.duplicates_engine.specs.Counts.{CountsLine};
 
 use crate::progress::{Progress, tell, warn};
-use crate::tally::{Tally, Total};
+use crate::tally::Total;
 
 /// Counts of the lines so far, and how many more new lines may come before a warning, if one is
 /// still to come.
 #[derive(Clone, Copy)]
 pub struct Counted {
-    pub tally: Tally,
-    /// The longer lines among them. The number stays at 2^64 - 1.
-    pub longer: u64,
+    pub total: Total,
     pub room: Option<u64>,
-}
-
-impl Counted {
-    /// The counts of all lines, where none comes any more.
-    pub fn total(self) -> Total
-        ensures tally { result.tally ≡ self.tally }
-        ensures longer { result.longer ≡ self.longer }
-    {
-        Total {
-            tally: self.tally,
-            longer: self.longer,
-        }
-    }
 }
 
 /// Counts a line, and tells what there is to tell of it.
@@ -36,17 +20,18 @@ pub fn count_line<P: Progress>(
     is_held: bool,
     progress: &mut P,
 )
-    ensures told { CountsLine counted.old.tally counted.new.tally counted.old.room counted.new.room
-        (P.tells progress.old) (P.tells progress.new)
-        (P.warnings progress.old) (P.warnings progress.new) is_held }
-    ensures longer { counted.new.longer ≡ (if is_longer
-        then min (counted.old.longer + 1) (2 ^ 64 - 1) else counted.old.longer) }
+    ensures { CountsLine counted.old.total counted.new.total is_longer is_held }
 {
-    let tally = counted.tally.after(is_held);
-    counted.tally = tally;
-    if is_longer {
-        counted.longer = counted.longer.saturating_add(1);
-    }
+    let tally = counted.total.tally.after(is_held);
+    let longer = counted.total.longer;
+    counted.total = Total {
+        tally,
+        longer: if is_longer {
+            longer.saturating_add(1)
+        } else {
+            longer
+        },
+    };
     warn(progress, &mut counted.room, is_held, tally);
     tell(progress, tally);
 }

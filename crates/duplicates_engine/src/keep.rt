@@ -26,24 +26,22 @@ fn keep_lines<V: Sieve, I: Inputs, W: Write, P: Progress, const END: u8>(
     output: &mut W,
     progress: &mut P,
 ) -> Result<Total, Fault>
-    ensures all { IfOk result (KeepsNew V.span V.recalls V.sifts END options
+    ensures all { IfOk result (KeepsNew V.Sieve END options
         (I.coming inputs.old) (I.coming inputs.new) sieve.old sieve.new
-        (W.contents output.old) (W.contents output.new)
-        (P.tells progress.old) (P.tells progress.new)
-        (P.warnings progress.old) (P.warnings progress.new)) }
-    ensures fault { IfErr result (EndsEarly V.span V.recalls V.sifts V.refuses I.fails END options
+        (W.contents output.old) (W.contents output.new)) }
+    ensures fault { IfErr result (EndsEarly V.Sieve I.fails END options
         (I.coming inputs.old) inputs.new sieve.old sieve.new
-        (W.contents output.old) (W.contents output.new)
-        (P.tells progress.old) (P.tells progress.new)
-        (P.warnings progress.old) (P.warnings progress.new)) }
+        (W.contents output.old) (W.contents output.new)) }
 {
     let mut counted = Counted {
-        tally: Tally { read: 0, held: 0 },
-        longer: 0,
+        total: Total {
+            tally: Tally { read: 0, held: 0 },
+            longer: 0,
+        },
         room: options.most,
     };
     let Some(mut input) = open_next(inputs)? else {
-        return Ok(counted.total());
+        return Ok(counted.total);
     };
     let mut opened = Opened::<END>::new(alloc, options)?;
     let mut ahead = Ahead::new();
@@ -58,7 +56,7 @@ fn keep_lines<V: Sieve, I: Inputs, W: Write, P: Progress, const END: u8>(
             inputs,
             output,
         )? {
-            Step::End => return Ok(counted.total()),
+            Step::End => return Ok(counted.total),
             Step::Opened => continue,
             Step::TooLong => return Err(Fault::TooLong(opened.number.saturating_add(1))),
             Step::Line => {}
@@ -94,19 +92,15 @@ pub fn keep_new<V: Sieve, I: Inputs, W: Write, P: Progress, const END: u8>(
 ) -> Result<Total, Fault>
     // All lines were sifted in order, but for longer ones. Each line for which the sieve returned
     // false differs from every line before it, as far back as the sieve's span reaches. Those that
-    // are asked for were written, and progress was told what there was to tell.
-    ensures all { IfOk result (KeepsNew V.span V.recalls V.sifts END options
+    // are asked for were written. What `progress` is told is tested only.
+    ensures all { IfOk result (KeepsNew V.Sieve END options
         (I.coming inputs.old) (I.coming inputs.new) sieve.old sieve.new
-        (W.contents output.old) (W.contents output.new)
-        (P.tells progress.old) (P.tells progress.new)
-        (P.warnings progress.old) (P.warnings progress.new)) }
+        (W.contents output.old) (W.contents output.new)) }
     // The same of the lines before a fault, which is the fault of what came behind them: the sieve
     // refused the next line, an open failed, or a line is too long.
-    ensures fault { IfErr result (EndsEarly V.span V.recalls V.sifts V.refuses I.fails END options
+    ensures fault { IfErr result (EndsEarly V.Sieve I.fails END options
         (I.coming inputs.old) inputs.new sieve.old sieve.new
-        (W.contents output.old) (W.contents output.new)
-        (P.tells progress.old) (P.tells progress.new)
-        (P.warnings progress.old) (P.warnings progress.new)) }
+        (W.contents output.old) (W.contents output.new)) }
     // In words of lines and the span alone: where the new lines are asked for, each line that is
     // written differs from every line before it, or, with a span of N, from every one behind which
     // fewer than N different lines came; where those held back are, each line that is left out

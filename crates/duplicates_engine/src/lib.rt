@@ -34,6 +34,6 @@ pub use fault::Fault;
 pub use inputs::Inputs;
 pub use keep::keep_new;
 pub use options::{Options, Written};
-pub use progress::{Progress, STRETCH, tell};
+pub use progress::Progress;
 pub use sieve::Sieve;
 pub use tally::{Tally, Total};

@@ -4,10 +4,10 @@ mod rows;
 
 use super::faulty::{KINDS, Reading, SLOW, Seen, Sink};
 use crate::row_reports::tell_row;
-use duplicates_engine::{Fault, Options, Total, keep_new};
+use duplicates_engine::{Fault, Options, Tally, Total, keep_new};
 use fastbloom::{BloomFilter, FilterError, Rate};
-use odd::{Limited, Quiet, Sources};
-use rows::{PLAIN, READS, RUNS, Row, Run};
+use odd::{Heard, Limited, Sources};
+use rows::{PLAIN, READS, RUNS, Row, Run, WARNINGS};
 use std::alloc::Global;
 use std::io::ErrorKind;
 
@@ -22,6 +22,7 @@ fn kept(
     run: &Run,
     sources: &mut Sources,
     writer: &mut Sink,
+    heard: &mut Heard,
 ) -> Result<Total, Fault> {
     let Ok(sieve) = filter_of(alloc) else {
         return Err(Fault::Memory);
@@ -35,10 +36,10 @@ fn kept(
         longest: run.longest,
         skips_longer: run.skips_longer,
         written: run.written,
-        most: None,
+        most: run.most,
     };
-    let ended = keep_new::<Limited<BloomFilter>, Sources, Sink, Quiet, 10>(
-        alloc, &mut sieve, options, sources, writer, &mut Quiet,
+    let ended = keep_new::<Limited<BloomFilter>, Sources, Sink, Heard, 10>(
+        alloc, &mut sieve, options, sources, writer, heard,
     );
     drop(sieve);
     ended
@@ -49,23 +50,39 @@ fn kept(
 fn is_right(alloc: Global, row: &Row) -> bool {
     let (run, output, wanted) = row;
     let seen = Seen::new();
-    let mut sources = Sources {
-        inputs: run.inputs,
-        at: 0,
-        broken: run.broken,
-        reading: run.reading,
-        seen: &seen,
-    };
+    let mut sources = Sources::new(run, &seen);
     let mut writer = Sink::new(alloc, run.writing, &seen);
-    let ended = kept(alloc, run, &mut sources, &mut writer);
+    let mut heard = Heard::new(alloc);
+    let ended = kept(alloc, run, &mut sources, &mut writer, &mut heard);
     let is_read = ended.is_err() | (seen.ends.get() == run.inputs.len());
-    is_read & (ended == *wanted) & writer.has(output.as_bytes()) & (seen.early.get() == 0)
+    is_read
+        & (ended == *wanted)
+        & writer.has(output.as_bytes())
+        & (seen.early.get() == 0)
+        & heard.has(&[])
 }
 
 #[test]
 fn odd_runs_write_and_end_as_they_are_to(rt: HostRuntime) {
     for (i, row) in RUNS.iter().enumerate() {
         assert!(rt; tell_row(&rt, i, is_right(rt.alloc(), row)));
+    }
+}
+
+// Whether a run warns of these counts, and of nothing else.
+fn is_warned(alloc: Global, run: &Run, warnings: &[Tally]) -> bool {
+    let seen = Seen::new();
+    let mut sources = Sources::new(run, &seen);
+    let mut writer = Sink::new(alloc, run.writing, &seen);
+    let mut heard = Heard::new(alloc);
+    let _ended = kept(alloc, run, &mut sources, &mut writer, &mut heard);
+    heard.has(warnings)
+}
+
+#[test]
+fn the_first_new_line_too_many_is_warned_of_once(rt: HostRuntime) {
+    for (i, (run, warnings)) in WARNINGS.iter().enumerate() {
+        assert!(rt; tell_row(&rt, i, is_warned(rt.alloc(), run, *warnings)));
     }
 }
 

@@ -202,6 +202,63 @@ pub(super) const RUNS: &'static [Row] = &[
     ),
 ];
 
+/// Runs with a most, and of which counts they warn: those with the first new line too many. A
+/// longer line is none, nor is one that is refused, but one is that can't be written.
+pub(super) const WARNINGS: &'static [(Run, &'static [Tally])] = &[
+    (
+        Run {
+            most: Some(4),
+            ..PLAIN
+        },
+        &[],
+    ),
+    (
+        Run {
+            most: Some(3),
+            ..PLAIN
+        },
+        &[Tally { read: 5, held: 1 }],
+    ),
+    (
+        Run {
+            most: Some(0),
+            written: Written::Nothing,
+            ..PLAIN
+        },
+        &[Tally { read: 1, held: 0 }],
+    ),
+    (
+        Run {
+            most: Some(3),
+            inputs: SEVERAL,
+            ..PLAIN
+        },
+        &[Tally { read: 6, held: 2 }],
+    ),
+    (
+        Run {
+            most: Some(1),
+            ..PASSING
+        },
+        &[Tally { read: 5, held: 3 }],
+    ),
+    (
+        Run {
+            most: Some(2),
+            ..LATE
+        },
+        &[],
+    ),
+    (
+        Run {
+            most: Some(1),
+            writing: FULL,
+            ..PLAIN
+        },
+        &[Tally { read: 2, held: 0 }],
+    ),
+];
+
 /// The inputs of readers that fail at their end, and what is written: whole lines that are new.
 pub(super) const READS: &'static [(&'static [&'static str], &'static str)] = &[
     (&[""], ""),

@@ -1,9 +1,8 @@
 use Rattle.std.proofs.Common.{subst}
 use Rattle.std.specs.Prelude.{IfOk}
-use Rattle.std.specs.Result.{result_err}
 use Rattle.bloom_parts.specs.Hashed.{finish, write}
-use Rattle.bloom_growing.specs.GrowingInserts.{RefusesInsert, Accepts}
-use Rattle.duplicates_engine.proofs.GrownLemmas.{hashes-ok, new-ok, refused-err, taken-ok}
+use Rattle.bloom_growing.specs.GrowingInserts.{Accepts}
+use Rattle.duplicates_engine.proofs.GrownLemmas.{hashes-ok, new-ok, taken-ok}
 use Rattle.duplicates_engine.proofs.growing.GrowingFilterOfSieve.sift.Goals as goal
 
 pub returns-clause-sifted : goal.returns-clause-sifted
@@ -24,12 +23,6 @@ returns-clause-taken g c =
     c.insert_hash.result
     (returns-clause-sifted g c) c.growing_inserted_stays_found.ensures.found
     c.growing_inserted_stays_found.ensures.kept
-
-pub returns-clause-refused : goal.returns-clause-refused
-returns-clause-refused g c =
-    refused-err g.F.GrowableFilter.kind c.args.self.now _ c.insert_hash.result
-    (subst (λ hash. RefusesInsert g.F.GrowableFilter.kind c.args.self.now hash
-    (result_err c.insert_hash.result)) c.requires c.insert_hash.ensures.refused)
 
 pub returns-clause-hashes : goal.returns-clause-hashes
 returns-clause-hashes g c =

@@ -12,6 +12,8 @@ pub(crate) struct Run {
     pub(crate) longest: usize,
     pub(crate) skips_longer: bool,
     pub(crate) written: Written,
+    /// Past how many new lines it warns.
+    pub(crate) most: Option<u64>,
     pub(crate) reading: Reading,
     pub(crate) writing: Writing,
     /// How many lines the sieve takes, and why it refuses the next.
@@ -26,6 +28,7 @@ pub(crate) const PLAIN: Run = Run {
     longest: 9,
     skips_longer: false,
     written: Written::New,
+    most: None,
     reading: WHOLE,
     writing: ROOMY,
     lines: 99,
