@@ -26,10 +26,7 @@ no_beginning party call e =
 runs_on : (party : ℕ) (step : Step) (found : ℕ) (e : End)
     → leaves party (Did party step found e) ≡ true → e ≡ Running
 runs_on party step found Running is = refl
-runs_on party step found Done is =
-    absurd (no_beginning party Clear is)
-runs_on party step found (Answer reply) is =
-    absurd (no_beginning party Clear is)
+runs_on party step found end is = absurd (no_beginning party Clear is)
 
 -- a record between the two leaves a party's call going on
 between : (party began last m : ℕ) (r : Record) → began < m → m < last

@@ -8,7 +8,7 @@ use Rattle.bloom_steps.specs.Vocabulary.{Load, Or, Other, Insert, Contains, Unio
 use Rattle.bloom_steps.specs.Scripts.{Any, Taken, IsScript}
 use Rattle.bloom_steps.specs.Courses.{CallAfterCall, IsLawful, no_call, begun_call, whole_call, records_of}
 use Rattle.bloom_steps.proofs.StepFacts.Members.{each-member, took}
-use Rattle.bloom_steps.proofs.StepFacts.Pairs.{one-pair}
+use Rattle.bloom_steps.proofs.StepFacts.Pairs.{read_write, read_write-script}
 use Rattle.bloom_steps.proofs.StepFacts.Scripts.{insert, is_script}
 use Rattle.bloom_steps.proofs.CourseFacts.Carrying.{carried}
 use Rattle.bloom_steps.proofs.CourseFacts.Courses.{twins, in_turn, insert_then_contains}
@@ -52,27 +52,13 @@ found-script = record {
   last = each-member _ found ((λ l. each-member _ found ((λ m. refl), tt)), tt);
 }
 
--- a union of one word
-abbrev read_write : ℕ → List Taken
-read_write other = took (Other 0) other Running ∷ took (Or 0 other) 0 Done ∷ []
-
--- a read and a write are a whole union of one word
-read_write-script : (other : ℕ) → IsScript 1 1 Union (read_write other)
-read_write-script other = record {
-  count = refl;
-  steps = one-pair Or 0 other;
-  stops = tt;
-  running = each-member _ (read_write other) ((λ l. refl), ((λ l. absurd (omega (arith, l))), tt));
-  last = each-member _ (read_write other) ((λ l. absurd (omega (arith, l))), ((λ l. refl), tt));
-}
-
 -- the calls of each party of the insert, the look-up and the union
 calls : (party : ℕ) → CallAfterCall 1 1 party (records_of party insert_then_contains.records)
 unfolding records_of
 calls zero =
     whole_call (Insert 0) inserted _ inserted-script
     (begun_call Union (took (Other 0) 9 Running ∷ [])
-    (record { next = _; rest = _; script = read_write-script 9 }))
+    (record { next = _; rest = _; script = read_write-script 1 9 }))
 calls (suc zero) = whole_call (Contains 0) found [] found-script no_call
 calls (suc (suc party)) =
     subst (CallAfterCall 1 1 (suc (suc party)))
@@ -151,7 +137,7 @@ known-script = record {
 -- the calls of each party of a union, and then an insert
 calls-in_turn : (party : ℕ) → CallAfterCall 1 1 party (records_of party in_turn.records)
 unfolding records_of
-calls-in_turn zero = whole_call Union (read_write 5) [] (read_write-script 5) no_call
+calls-in_turn zero = whole_call Union (read_write 5) [] (read_write-script 1 5) no_call
 calls-in_turn (suc zero) = whole_call (Insert 0) known [] known-script no_call
 calls-in_turn (suc (suc party)) =
     subst (CallAfterCall 1 1 (suc (suc party)))

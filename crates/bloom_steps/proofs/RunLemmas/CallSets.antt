@@ -10,7 +10,8 @@ use Rattle.bloom_steps.specs.declared.steps.vocabulary.Call.TheVariants.{Take}
 use Rattle.bloom_steps.specs.declared.steps.vocabulary.Step.TheVariants as step
 use Rattle.bloom_parts.specs.Operations.{decides}
 use Rattle.bloom_parts.proofs.PublishedLemmas.{position-from, position-to}
-use Rattle.bloom_steps.specs.Scripts.{IsScript, Taken, Each, ArePairs}
+use Rattle.bloom_steps.specs.Scripts.{AreStepsOf, IsScript, Taken, Each}
+use Rattle.bloom_steps.specs.Plans.{EachPair}
 use Rattle.bloom_steps.specs.Sequences.{command_of, other_words}
 use Rattle.bloom_steps.specs.Steps.{after_records, or_at, step_decides}
 use Rattle.bloom_steps.specs.Courses.{did}
@@ -99,8 +100,8 @@ module _ (w k p : ℕ) (s : List Taken) (A : ℕ → Bool) where
           ]
 
   -- pairs make of each position what the other filter's bit says
-  pairs-make : (op : ℕ → ℕ → Step) (on : Bool) → TurnsBy op on × ReadsNoOther op → ArePairs op s
-      → length s ≡ 2 * w → (q : ℕ) → Fits w A (did p s)
+  pairs-make : (op : ℕ → ℕ → Step) (on : Bool) → TurnsBy op on × ReadsNoOther op
+      → AreStepsOf w (EachPair op on) s → length s ≡ 2 * w → (q : ℕ) → Fits w A (did p s)
       → after_records A (did p s) q ≡ unwrap_or (made on (content (other_words s) q)) (A q)
   pairs-make op on does steps count q f = elim (cases_lt (q / 64) w) [
     | inl inside ↦ pairs-steps op on does.0 does.1 w s steps count p A q inside

@@ -81,12 +81,9 @@ carried-finds run made m party = go
     go : (step : Step) (found : ℕ) (ended : End)
         → slice_get run.records m ≡ Some (Did party step found ended)
         → FoundBits (moment run m) step found
-    go (Load i) found ended at = bits (Load i) found ended at (λ ws given. refl)
-    go (Or i mask) found ended at = bits (Or i mask) found ended at (λ ws given. refl)
-    go (And i mask) found ended at = bits (And i mask) found ended at (λ ws given. refl)
     go (Zero i) found ended at = tt
     go (Other i) found ended at = tt
-    go (Take i) found ended at = bits (Take i) found ended at (λ ws given. refl)
+    go step found ended at = bits step found ended at (λ ws given. refl)
 
 -- a step that was carried out is on one of the words
 carried-within : (words : List ℕ) (rs : List Record) (after : List ℕ) → CarriedOut words rs after
@@ -117,12 +114,9 @@ carried-steps run made m party = go
     go : (step : Step) (found : ℕ) (ended : End)
         → slice_get run.records m ≡ Some (Did party step found ended)
         → IsWithin (length run.start) step
-    go (Load i) found ended at = tt
     go (Or i mask) found ended at = within (Or i mask) found ended at
-    go (And i mask) found ended at = tt
-    go (Zero i) found ended at = tt
-    go (Other i) found ended at = tt
     go (Take i) found ended at = within (Take i) found ended at
+    go step found ended at = tt
 
 -- a course of a kind gives what each kind gives
 pub course_tells : (kind : Kind) (words : ℕ) (run : Course) → IsCourseOf words kind.Script run

@@ -25,9 +25,7 @@ of-grower : (P : Call → Type 0) → ((hash : ℕ) → P (Insert hash))
 of-grower P ins look unites (Insert hash) passes = ins hash
 of-grower P ins look unites (Contains hash) passes = look hash
 of-grower P ins look unites Union passes = unites
-of-grower P ins look unites Clear passes = absurd (both_ways false refl passes)
-of-grower P ins look unites Intersect passes = absurd (both_ways false refl passes)
-of-grower P ins look unites Take passes = absurd (both_ways false refl passes)
+of-grower P ins look unites call passes = absurd (both_ways false refl passes)
 
 -- calls of a run, by their party and script
 pub record Owners (kind : Kind) (run : Course) (Of : ℕ → Call → List Taken → Type 0) : Type 0 where

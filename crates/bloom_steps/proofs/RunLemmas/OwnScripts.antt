@@ -111,12 +111,9 @@ module _ (k : ℕ) (run : Course) (lawful : IsLawful k run) (some_words : 1 ≤ 
 -- the word that a step found has the bits that were there
 found-bits : (A : ℕ → Bool) (step : Step) (found : ℕ) → MayFind A step found
     → FoundBits A step found
-found-bits A (Load i) found may = may.bits
-found-bits A (Or i mask) found may = may.bits
-found-bits A (And i mask) found may = may.bits
 found-bits A (Zero i) found may = tt
 found-bits A (Other i) found may = tt
-found-bits A (Take i) found may = may.bits
+found-bits A step found may = may.bits
 
 -- each step of a lawful run found the bits that were there
 pub lawful-finds : (k : ℕ) (run : Course) → IsLawful k run → FindsBits run

@@ -6,12 +6,13 @@ use Rattle.std.proofs.lemmas.Option.{get_or_from_slice_get, none-some, same_Some
 use Rattle.bloom_parts.specs.Content.{bit_is_on, content}
 use Rattle.bloom_parts.proofs.PublishedLemmas.{content-past}
 use Rattle.bloom_steps.specs.Vocabulary.{Step, Other}
-use Rattle.bloom_steps.specs.Scripts.{ArePairs, Taken}
+use Rattle.bloom_steps.specs.Scripts.{AreStepsOf, Taken}
+use Rattle.bloom_steps.specs.Plans.{EachPair}
 use Rattle.bloom_steps.specs.Sequences.{found_in_other, other_words}
 use Rattle.bloom_steps.specs.Steps.{after_records, step_decides}
 use Rattle.bloom_steps.specs.Courses.{did}
 use Rattle.bloom_steps.proofs.RunLemmas.CallSteps.{AllDecide, steps-some}
-use Rattle.bloom_steps.proofs.StepLemmas.Going.{parity}
+use Rattle.bloom_steps.proofs.StepLemmas.Going.{operates, parity, reads}
 use Rattle.bloom_steps.proofs.StepLemmas.Members.{some_member}
 use Rattle.bloom_steps.proofs.StepLemmas.Writing.{content-word}
 
@@ -81,13 +82,14 @@ words-length op j _ plain (one_pair _ t u rest load write more) =
 
 -- a whole list of pairs
 module _ (op : ℕ → ℕ → Step) (on : Bool) (by : TurnsBy op on) (plain : ReadsNoOther op)
-    (w : ℕ) (s : List Taken) (pairs : ArePairs op s) (l : length s ≡ 2 * w) where
+    (w : ℕ) (s : List Taken) (steps : AreStepsOf w (EachPair op on) s) (l : length s ≡ 2 * w)
+  where
   -- the steps are pairs from word 0 on
   from_start : PairsFrom op 0 s
   from_start =
       let none : (i : ℕ) → i ≡ 0 + i = λ i. omega arith in
-      pairs_from op w 0 s l (λ i t g. pairs.loads i t g ∙ ap Other (none i))
-      (λ i t u g f. pairs.writes i t u g f ∙ ap (λ j. op j t.found) (none i))
+      pairs_from op w 0 s l (λ i t g. reads w op on s steps i t g ∙ ap Other (none i))
+      (λ i t u g f. operates w op on s steps i t u g f ∙ ap (λ j. op j t.found) (none i))
 
   -- the bit of the other filter is that of the word which its load found
   other-bit : (q : ℕ) (t : Taken) → slice_get s (2 * (q / 64)) ≡ Some t
@@ -118,12 +120,12 @@ module _ (op : ℕ → ℕ → Step) (on : Bool) (by : TurnsBy op on) (plain : R
   pairs-all : (q : ℕ) → AllDecide s q (made on (content (other_words s) q))
   pairs-all q j u g = elim (parity j) [
     | inl even ↦
-        inl (ap (λ x. step_decides x q) (pairs.loads even.0 u (ap (slice_get s) (sym even.1) ∙ g)))
+        inl (ap (λ x. step_decides x q) (reads w op on s steps even.0 u (ap (slice_get s) (sym even.1) ∙ g)))
     | inr odd ↦
         let i = odd.0 in
         let within = slice_get_within s j u g in
         let there = some_member s (2 * i) (omega (arith, odd.1)) in
-        let e = pairs.writes i there.0 u there.1 (ap (slice_get s) (sym odd.1) ∙ g) in
+        let e = operates w op on s steps i there.0 u there.1 (ap (slice_get s) (sym odd.1) ∙ g) in
         elim (eqb_tells (q / 64) i) [
           | inl here ↦ inr (write-decides q i there.0 u there.1 e here.1)
           | inr other ↦
@@ -141,4 +143,4 @@ module _ (op : ℕ → ℕ → Step) (on : Bool) (by : TurnsBy op on) (plain : R
       let u = some_member s (2 * (q / 64) + 1) (omega arith) in
       steps-some p s A q (made on (content (other_words s) q)) (pairs-all q) (2 * (q / 64) + 1) u.0
       u.1
-      (write-decides q (q / 64) t.0 u.0 t.1 (pairs.writes (q / 64) t.0 u.0 t.1 u.1) refl)
+      (write-decides q (q / 64) t.0 u.0 t.1 (operates w op on s steps (q / 64) t.0 u.0 t.1 u.1) refl)

@@ -1,6 +1,6 @@
 -- A party of a run: its machine, and its records.
 use Rattle.std.proofs.Common.{[], ◌++◌, ◌<◌, ◌∙◌, ◌∷◌, ◌≡◌, ◌≢◌, Bool, List, None, Option, Some, ap, append_assoc, false, get_or-set_other, get_or-set_same, inl, inr, length, not, refl, slice_set, subst, sym, true, ℕ}
-use Rattle.std.proofs.lemmas.Bool.{both_ways}
+use Rattle.std.proofs.lemmas.Bool.{not-false}
 use Rattle.std.proofs.lemmas.Bool.Decides.{eqb_tells}
 use Rattle.std.proofs.lemmas.List.{append-nil}
 use Rattle.std.specs.Prelude.{slice_index_or}
@@ -52,11 +52,7 @@ module _ (w k p : ℕ) where
       (subst (CallAfterCall w k p)
       (sym (append_assoc at.earlier (call_records p at.call at.taken) later))
       (at.before (call_records p at.call at.taken ++ later)
-      (whole_call at.call at.taken later (at.stands.whole (over m.ended off)) calls)))
-    where
-      over : (b : Bool) → not b ≡ false → b ≡ true
-      over true e = refl
-      over false e = absurd (both_ways true e refl)
+      (whole_call at.call at.taken later (at.stands.whole (not-false m.ended off)) calls)))
 
   -- a step that the party's machine asks for is on one of the words
   pub step-within : (m : Machine) (rs : List Record) (step : Step) → HasCalled w k p m rs

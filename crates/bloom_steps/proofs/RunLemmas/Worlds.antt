@@ -48,12 +48,10 @@ is_word-read A words i found all e fits = record {
 pub may_find-read : (A : ℕ → Bool) (words : List ℕ) (given found : ℕ) (step : Step)
     → ((p : ℕ) → content words p ≡ A p)
     → found ≡ found_in words given step → found < 2 ^ 64 → MayFind A step found
-may_find-read A words given found (Load i) all e fits = is_word-read A words i found all e fits
-may_find-read A words given found (Or i m) all e fits = is_word-read A words i found all e fits
-may_find-read A words given found (And i m) all e fits = is_word-read A words i found all e fits
 may_find-read A words given found (Zero i) all e fits = e
 may_find-read A words given found (Other i) all e fits = fits
-may_find-read A words given found (Take i) all e fits = is_word-read A words i found all e fits
+may_find-read A words given found step all e fits =
+    is_word-read A words (word_index step) found all e fits
 
 -- a world, and a party of it
 module _ (k : ℕ) (start words : List ℕ) (machines : List (Option Machine)) (rs : List Record)

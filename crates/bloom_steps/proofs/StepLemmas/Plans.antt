@@ -58,10 +58,9 @@ by-and i x q = go (nat_eq (q / 64) i) (bit_is_on x q)
 pub plan_decides : (call : Call) → PlanDecides (plan_of call)
 plan_decides (Insert h) = tt
 plan_decides (Contains h) = tt
-plan_decides Clear = λ i q. refl
 plan_decides Union = (by-or, (λ i x found. refl))
 plan_decides Intersect = (by-and, (λ i x found. refl))
-plan_decides Take = λ i q. refl
+plan_decides call = λ i q. refl
 
 -- an operation that sets bits makes no other decision
 pub on-only : (op : ℕ → ℕ → Step) (on : Bool) → TurnsBy op on → on ≡ true → (i x q : ℕ)
@@ -83,10 +82,8 @@ on-only op on by is i x q =
 
 -- a plan that goes by a hash clears nothing
 pub hash-grows : (plan : Plan) → goes_by_hash plan ≡ true → turns_none_off plan ≡ true
-hash-grows (TurnsOn h) e = refl
-hash-grows (LooksAt h) e = refl
-hash-grows (EachWord op) e = e
 hash-grows (EachPair op on) e = absurd (both_ways false refl e)
+hash-grows plan e = e
 
 -- a call that goes by a hash is an insert or a look-up
 pub hash-adds : (call : Call) → goes_by_hash (plan_of call) ≡ true → adds_or_takes call ≡ true
