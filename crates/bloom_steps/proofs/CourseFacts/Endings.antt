@@ -1,11 +1,6 @@
 -- What the theorem on growing runs says of the worked courses.
 use Rattle.std.proofs.Common.{◌∷◌, [], List, zero, suc, ℕ, refl, arith, inl, inr}
-use Rattle.bloom_parts.specs.Chain.{chain}
-use Rattle.bloom_parts.specs.Content.{content}
-use Rattle.bloom_steps.specs.CourseLaws.{EndsWithAll, IsInserted}
-use Rattle.bloom_steps.specs.Moments.{EveryCallEnded}
-use Rattle.bloom_steps.specs.Courses.{records_of}
-use Rattle.bloom_steps.specs.Plans.{turns_none_off}
+use Rattle.bloom_steps.proofs.Common.{chain, content, EndsWithAll, IsInserted, EveryCallEnded, records_of, turns_none_off}
 use Rattle.bloom_steps.proofs.CourseFacts.Courses.{twins}
 use Rattle.bloom_steps.proofs.CourseFacts.Gains.{twins-pass}
 use Rattle.bloom_steps.proofs.CourseFacts.Lawful.{lawful-twins}

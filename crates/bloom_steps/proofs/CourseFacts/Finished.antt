@@ -1,10 +1,7 @@
 -- Which calls of the worked courses are finished, and which not.
 use Rattle.std.proofs.Common.{◌≡◌, ◌≢◌, ◌<◌, List, ℕ, Some, slice_get, true, refl, Bool, not, ◌&&◌, ◌||◌, ◌==◌, ap, sym, ◌∙◌, ltb}
-use Rattle.bloom_steps.specs.Vocabulary.{Step, Call, Clear, End, Running, Done, Answer, Record, Began, Did}
-use Rattle.bloom_steps.specs.Courses.{Course}
-use Rattle.bloom_steps.specs.Moments.{IsStepAt, IsFinished}
+use Rattle.bloom_steps.proofs.Common.{Step, Call, Clear, End, Running, Done, Answer, Record, Began, Did, Course, IsStepAt, IsFinished, both_ways, and_from, eq-eqb, lt-ltb}
 use Rattle.bloom_steps.proofs.StepFacts.Members.{all_pass, each-passes}
-use Rattle.std.proofs.lemmas.Bool.{both_ways, and_from, eq-eqb, lt-ltb}
 
 -- whether a record leaves a party's call going on: it is no beginning and no end of the party's
 abbrev leaves : ℕ → Record → Bool

@@ -1,12 +1,6 @@
 -- How many positions the steps of the worked courses gain, and how many found their bit clear.
 use Rattle.std.proofs.Common.{◌≡◌, Bool, ℕ, subst, true, ◌∷◌, [], not, ◌&&◌, refl, arith, sym}
-use Rattle.std.specs.Prelude.{sum_by}
-use Rattle.bloom_parts.specs.Content.{content}
-use Rattle.bloom_steps.specs.Vocabulary.{Insert, Began}
-use Rattle.bloom_steps.specs.Interleavings.{CountsGains, bits_gained, bits_new, count_below}
-use Rattle.bloom_steps.specs.Moments.{EveryCall}
-use Rattle.bloom_steps.specs.Plans.{Plan, TurnsOn, goes_by_hash, plan_of}
-use Rattle.bloom_steps.specs.Courses.{Course}
+use Rattle.bloom_steps.proofs.Common.{sum_by, content, Insert, Began, CountsGains, bits_gained, bits_new, count_below, EveryCall, Plan, TurnsOn, goes_by_hash, plan_of, Course}
 use Rattle.bloom_steps.proofs.StepFacts.Members.{each-member}
 use Rattle.bloom_steps.proofs.CourseFacts.Courses.{twins}
 use Rattle.bloom_steps.proofs.CourseFacts.Lawful.{lawful-twins}

@@ -1,12 +1,7 @@
 -- Worked courses that are lawful.
 use Rattle.std.proofs.Common.{◌≡◌, ◌∷◌, [], List, ℕ, zero, suc, true, false, refl, arith, sym, subst, lit<, ◌<◌, ◌^◌, ◌∙◌}
 use Rattle.std.proofs.lemmas.List.Elements.{All-cons, All-nil}
-use Rattle.bloom_parts.specs.Chain.{chain}
-use Rattle.bloom_parts.specs.Content.{AreWords, bit_is_on, content}
-use Rattle.bloom_parts.specs.Places.{place}
-use Rattle.bloom_steps.specs.Vocabulary.{Load, Or, Other, Insert, Contains, Union, Began, Did, Running, Done, Answer}
-use Rattle.bloom_steps.specs.Scripts.{Any, Taken, IsScript}
-use Rattle.bloom_steps.specs.Courses.{CallAfterCall, IsLawful, no_call, begun_call, whole_call, records_of}
+use Rattle.bloom_steps.proofs.Common.{chain, AreWords, bit_is_on, content, place, Load, Or, Other, Insert, Contains, Union, Began, Did, Running, Done, Answer, Any, Taken, IsScript, CallAfterCall, IsLawful, no_call, begun_call, whole_call, records_of}
 use Rattle.bloom_steps.proofs.StepFacts.Members.{each-member, took}
 use Rattle.bloom_steps.proofs.StepFacts.Pairs.{read_write, read_write-script}
 use Rattle.bloom_steps.proofs.StepFacts.Scripts.{insert, is_script}

@@ -1,15 +1,8 @@
 -- A take between the steps of an insert: it loses nothing that was set, and a clear does.
-use Rattle.std.specs.Prelude.{sum_by}
+use Rattle.bloom_steps.proofs.Common.{sum_by, chain, content, Or, Call, Insert, Running, Done, Answer, Began, Did, CallAfterCall, Course, IsLawful, no_call, records_of, whole_call, TakesLoseNothing, adds_or_takes, bits_gained, bits_new, bits_on, bits_taken, count_below, bits_of, IsScript, Taken}
 use Rattle.std.proofs.Common.{◌≡◌, ◌∷◌, [], List, ℕ, zero, suc, true, false, Some, refl, arith, sym, subst, lit<, slice_get}
-use Rattle.bloom_parts.specs.Chain.{chain}
-use Rattle.bloom_parts.specs.Content.{content}
-use Rattle.bloom_steps.specs.Vocabulary.{Or, Call, Insert, Running, Done, Answer, Began, Did}
 use Rattle.bloom_steps.specs.declared.steps.vocabulary.Step.TheVariants as step
 use Rattle.bloom_steps.specs.declared.steps.vocabulary.Call.TheVariants.{Take}
-use Rattle.bloom_steps.specs.Courses.{CallAfterCall, Course, IsLawful, no_call, records_of, whole_call}
-use Rattle.bloom_steps.specs.Interleavings.{TakesLoseNothing, adds_or_takes, bits_gained, bits_new, bits_on, bits_taken, count_below}
-use Rattle.bloom_steps.specs.Moments.{bits_of}
-use Rattle.bloom_steps.specs.Scripts.{IsScript, Taken}
 use Rattle.bloom_steps.proofs.CourseFacts.Carrying.{carried}
 use Rattle.bloom_steps.proofs.CourseFacts.Lawful.{one-word}
 use Rattle.bloom_steps.proofs.CourseFacts.Parties.{none-past}

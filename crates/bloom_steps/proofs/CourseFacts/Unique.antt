@@ -1,8 +1,6 @@
 -- What the law on one course says of a schedule.
 use Rattle.std.proofs.Common.{◌≡◌, ◌∷◌, [], List, ℕ, zero, suc, refl, arith, lit<, sym, subst}
-use Rattle.bloom_steps.specs.Vocabulary.{Zero, Clear, Done}
-use Rattle.bloom_steps.specs.Scripts.{IsScript, Taken}
-use Rattle.bloom_steps.specs.Courses.{AtMostOne, CallAfterCall, Course, Follows, IsLawful, no_call, records_of, whole_call}
+use Rattle.bloom_steps.proofs.Common.{Zero, Clear, Done, IsScript, Taken, AtMostOne, CallAfterCall, Course, Follows, IsLawful, no_call, records_of, whole_call}
 use Rattle.bloom_steps.proofs.StepFacts.Members.{each-member, took}
 use Rattle.bloom_steps.proofs.CourseFacts.Carrying.{carried}
 use Rattle.bloom_steps.proofs.CourseFacts.Lawful.{one-word}

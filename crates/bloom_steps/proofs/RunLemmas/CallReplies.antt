@@ -1,17 +1,7 @@
 -- The answer of a whole call, alone, is its command's reply in the set before.
-use Rattle.bloom_steps.specs.Plans.{TurnsOn}
+use Rattle.bloom_steps.proofs.Common.{TurnsOn, both_ways, cases_lt, false_from_ne_true, true_from_ne_false, slice_get_within, bit_is_on, are_in, place, End, Call, Contains, Insert, Did, AllFoundOn, IsScript, Taken, answer_of, answer_of_end, Any, IsLastEnd, command_of, after_records, step_decides, MayFind, did, are_in-off}
 use Rattle.std.proofs.Common.{◌*◌, ◌+◌, ◌-◌, ◌∙◌, ◌≡◌, ◌≤◌, Bool, List, None, Some, add-one, ap, arith, false, inl, inr, length, refl, slice_get, subst, suc, sym, take, true, unwrap_or, zero, ℕ, ◌<◌}
-use Rattle.std.proofs.lemmas.Bool.{both_ways, cases_lt, false_from_ne_true, true_from_ne_false}
-use Rattle.std.proofs.lemmas.Option.{slice_get_within}
-use Rattle.bloom_parts.specs.Content.{bit_is_on}
-use Rattle.bloom_parts.specs.Places.{are_in, place}
-use Rattle.bloom_steps.specs.Vocabulary.{End, Call, Contains, Insert, Did}
 use Rattle.bloom_parts.specs.Operations.{reply}
-use Rattle.bloom_steps.specs.Scripts.{AllFoundOn, IsScript, Taken, answer_of, answer_of_end, Any, IsLastEnd}
-use Rattle.bloom_steps.specs.Sequences.{command_of}
-use Rattle.bloom_steps.specs.Steps.{after_records, step_decides}
-use Rattle.bloom_steps.specs.Courses.{MayFind, did}
-use Rattle.bloom_parts.proofs.PublishedLemmas.{are_in-off}
 use Rattle.bloom_steps.proofs.RunLemmas.CallSets.{contains-all, insert-all}
 use Rattle.bloom_steps.proofs.RunLemmas.Changes.{or_at-decides}
 use Rattle.bloom_steps.proofs.RunLemmas.CallSteps.{Fits, all_decide-take, steps-none, steps-on}

@@ -1,16 +1,9 @@
 -- Whole calls, one after the other, act as the list of their commands.
 use Rattle.std.proofs.Common.{[], ◌*◌, ◌∙◌, ◌∷◌, ◌≡◌, ◌≤◌, Bool, List, None, Option, Some, ap, option_map, length, map, refl, slice_get, subst, suc, sym, take, unwrap_or, zero, ℕ}
-use Rattle.std.proofs.lemmas.Option.{none-some, same_Some}
-use Rattle.bloom_parts.specs.Content.{content}
-use Rattle.bloom_steps.specs.Vocabulary.{Call, Record, Began}
+use Rattle.bloom_steps.proofs.Common.{none-some, same_Some, content, Call, Record, Began, are_in, answer_of, ActsAs, ActsAsCommands, Cut, MadeCall, command_of, commands_of, cut, other_words, after_records, Course, IsLawful, call_records, did}
 use Rattle.bloom_parts.specs.Operations.{asked_by}
-use Rattle.bloom_parts.specs.Places.{are_in}
 use Rattle.bloom_parts.specs.Operations.{Operation, decides, state_after}
 use Rattle.bloom_parts.specs.Operations.{reply}
-use Rattle.bloom_steps.specs.Scripts.{answer_of}
-use Rattle.bloom_steps.specs.Sequences.{ActsAs, ActsAsCommands, Cut, MadeCall, command_of, commands_of, cut, other_words}
-use Rattle.bloom_steps.specs.Steps.{after_records}
-use Rattle.bloom_steps.specs.Courses.{Course, IsLawful, call_records, did}
 use Rattle.bloom_steps.proofs.RunLemmas.CallSets.{call-steps}
 use Rattle.bloom_steps.proofs.RunLemmas.CallReplies.{call-answer}
 use Rattle.bloom_steps.proofs.RunLemmas.Bounds.{moment-past}

@@ -1,14 +1,8 @@
 -- What the steps of finished calls are, for calls of any kind.
 use Rattle.std.proofs.Common.{◌≡◌, Bool, List, Some, false, refl, slice_get, true, ℕ}
-use Rattle.std.proofs.lemmas.Bool.{both_ways}
-use Rattle.bloom_steps.specs.Vocabulary.{Call, Clear, Contains, Insert, Intersect, Union, Did, Step}
+use Rattle.bloom_steps.proofs.Common.{both_ways, Call, Clear, Contains, Insert, Intersect, Union, Did, Step, IsStepOf, Course, adds_or_takes, goes_by_hash, plan_of, Taken}
 use Rattle.bloom_steps.specs.declared.steps.vocabulary.Call.TheVariants.{Take}
 use Rattle.bloom_steps.specs.declared.steps.vocabulary.Step.TheVariants as step
-use Rattle.bloom_steps.specs.CourseLaws.{IsStepOf}
-use Rattle.bloom_steps.specs.Courses.{Course}
-use Rattle.bloom_steps.specs.Interleavings.{adds_or_takes}
-use Rattle.bloom_steps.specs.Plans.{goes_by_hash, plan_of}
-use Rattle.bloom_steps.specs.Scripts.{Taken}
 use Rattle.bloom_steps.proofs.RunLemmas.InsertSteps.{IsOr}
 use Rattle.bloom_steps.proofs.RunLemmas.Kinds.{Kind}
 use Rattle.bloom_steps.proofs.RunLemmas.Scripted.{IsScripted, step-of}

@@ -1,13 +1,9 @@
 -- What every interleaving gives, for calls of any kind: the scripts of a call may be any, where
 -- those of an insert set positions of its hash, and those of a look-up load their words.
 use Rattle.std.proofs.Common.{◌+◌, ◌-◌, ◌<◌, ◌∙◌, ◌≡◌, ◌≤◌, Bool, List, arith, false, refl, sym, true, ℕ}
-use Rattle.bloom_steps.specs.Vocabulary.{Call, Contains, Insert, Union, End, Answer}
+use Rattle.bloom_steps.proofs.Common.{Call, Contains, Insert, Union, End, Answer, Course, ContainsTell, FindsInserted, InsertsTell, IsFinished, NoneTurnedOff, moment, Each, Taken}
 use Rattle.bloom_steps.specs.declared.steps.vocabulary.Call.TheVariants.{Take}
 use Rattle.bloom_steps.specs.declared.steps.vocabulary.Step.TheVariants as step
-use Rattle.bloom_steps.specs.Courses.{Course}
-use Rattle.bloom_steps.specs.Interleavings.{ContainsTell, FindsInserted, InsertsTell}
-use Rattle.bloom_steps.specs.Moments.{IsFinished, NoneTurnedOff, moment}
-use Rattle.bloom_steps.specs.Scripts.{Each, Taken}
 use Rattle.bloom_steps.proofs.RunLemmas.Changes.{not_turned_off, persists}
 use Rattle.bloom_steps.proofs.RunLemmas.CopySteps.{CopySteps}
 use Rattle.bloom_steps.proofs.RunLemmas.InsertSteps.{InsertSteps, insert-covers, insert-tells}

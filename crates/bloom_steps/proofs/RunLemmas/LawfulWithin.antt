@@ -1,14 +1,7 @@
 -- In a lawful course a step that sets bits, or takes a word, does so in one of the words.
 use Rattle.std.proofs.Common.{◌*◌, ◌+◌, ◌/◌, ◌<◌, ◌∙◌, ◌≡◌, List, arith, inl, inr, length, subst, sym, true, false, ℕ}
-use Rattle.std.proofs.lemmas.Bool.{both_ways, cases_lt}
-use Rattle.std.proofs.lemmas.Option.{slice_get_within}
-use Rattle.bloom_parts.specs.Places.{place}
-use Rattle.bloom_steps.specs.Vocabulary.{And, Call, Insert, Intersect, Or, Union}
+use Rattle.bloom_steps.proofs.Common.{both_ways, cases_lt, slice_get_within, place, And, Call, Insert, Intersect, Or, Union, Course, IsLawful, moment, plan_of, Taken}
 use Rattle.bloom_steps.specs.declared.steps.vocabulary.Call.TheVariants.{Take}
-use Rattle.bloom_steps.specs.Courses.{Course, IsLawful}
-use Rattle.bloom_steps.specs.Moments.{moment}
-use Rattle.bloom_steps.specs.Plans.{plan_of}
-use Rattle.bloom_steps.specs.Scripts.{Taken}
 use Rattle.bloom_steps.proofs.RunLemmas.Bounds.{moment-past}
 use Rattle.bloom_steps.proofs.RunLemmas.Changes.{on-or}
 use Rattle.bloom_steps.proofs.RunLemmas.PlacedSteps.{IsPlacedAt}

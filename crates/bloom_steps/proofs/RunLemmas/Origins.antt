@@ -1,14 +1,7 @@
 -- Where a growing run's positions come from.
 use Rattle.bloom_steps.proofs.StepLemmas.Plans.{plan_decides, PlanDecides, on-only}
-use Rattle.bloom_steps.specs.Plans.{turns_none_off, Plan, plan_of, TurnsOn, LooksAt, EachWord, EachPair}
+use Rattle.bloom_steps.proofs.Common.{turns_none_off, Plan, plan_of, TurnsOn, LooksAt, EachWord, EachPair, both_ways, place, Call, Record, Began, Did, Step, EveryCall, Taken, after_records, record_decides, step_decides, Course, IsLawful}
 use Rattle.std.proofs.Common.{[], ◌%◌, ◌*◌, ◌/◌, ◌^◌, ◌∙◌, ◌∷◌, ◌≡◌, ◌⊎◌, Bool, List, None, Option, Some, ap, inl, inr, length, map, refl, slice_get, subst, suc, sym, true, unwrap_or, ℕ, false}
-use Rattle.std.proofs.lemmas.Bool.{both_ways}
-use Rattle.bloom_parts.specs.Places.{place}
-use Rattle.bloom_steps.specs.Vocabulary.{Call, Record, Began, Did, Step}
-use Rattle.bloom_steps.specs.Moments.{EveryCall}
-use Rattle.bloom_steps.specs.Scripts.{Taken}
-use Rattle.bloom_steps.specs.Steps.{after_records, record_decides, step_decides}
-use Rattle.bloom_steps.specs.Courses.{Course, IsLawful}
 use Rattle.bloom_steps.proofs.RunLemmas.Bounds.{NoneMakesOff}
 use Rattle.bloom_steps.proofs.RunLemmas.Changes.{DecidesOnly, or-decides_only}
 use Rattle.bloom_steps.proofs.RunLemmas.RecordedCalls.{step_held}

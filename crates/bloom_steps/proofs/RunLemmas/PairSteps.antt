@@ -1,16 +1,7 @@
 -- What the steps of a union or an intersection make of a set.
 use Rattle.bloom_steps.proofs.StepLemmas.Plans.{TurnsBy, ReadsNoOther, made}
 use Rattle.std.proofs.Common.{[], ◌*◌, ◌++◌, ◌+◌, ◌/◌, ◌<◌, ◌∙◌, ◌∷◌, ◌≡◌, ◌≤◌, Bool, List, None, Some, ap, arith, eq-eqb, false, if◌then◌else◌, inl, inr, length, refl, slice_get, suc, sym, unwrap_or, zero, ℕ}
-use Rattle.std.proofs.lemmas.Bool.Decides.{eqb_tells}
-use Rattle.std.proofs.lemmas.Option.{get_or_from_slice_get, none-some, same_Some, slice_get_within}
-use Rattle.bloom_parts.specs.Content.{bit_is_on, content}
-use Rattle.bloom_parts.proofs.PublishedLemmas.{content-past}
-use Rattle.bloom_steps.specs.Vocabulary.{Step, Other}
-use Rattle.bloom_steps.specs.Scripts.{AreStepsOf, Taken}
-use Rattle.bloom_steps.specs.Plans.{EachPair}
-use Rattle.bloom_steps.specs.Sequences.{found_in_other, other_words}
-use Rattle.bloom_steps.specs.Steps.{after_records, step_decides}
-use Rattle.bloom_steps.specs.Courses.{did}
+use Rattle.bloom_steps.proofs.Common.{eqb_tells, get_or_from_slice_get, none-some, same_Some, slice_get_within, bit_is_on, content, content-past, Step, Other, AreStepsOf, Taken, EachPair, found_in_other, other_words, after_records, step_decides, did}
 use Rattle.bloom_steps.proofs.RunLemmas.CallSteps.{AllDecide, steps-some}
 use Rattle.bloom_steps.proofs.StepLemmas.Going.{operates, parity, reads}
 use Rattle.bloom_steps.proofs.StepLemmas.Members.{some_member}

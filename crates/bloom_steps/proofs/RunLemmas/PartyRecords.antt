@@ -1,11 +1,6 @@
 -- The records of one party among all.
 use Rattle.std.proofs.Common.{[], ◌++◌, ◌∙◌, ◌∷◌, ◌≡◌, ◌≢◌, ◌⊎◌, List, Some, ap, eq-eqb, if◌then◌else◌, inl, inr, refl, slice_get, subst, suc, sym, take, zero, ℕ}
-use Rattle.std.proofs.lemmas.Bool.Decides.{eqb_tells}
-use Rattle.std.proofs.lemmas.List.{append-nil}
-use Rattle.std.proofs.lemmas.Option.{none-some, same_Some}
-use Rattle.bloom_steps.specs.Vocabulary.{Record, Began, Did}
-use Rattle.bloom_steps.specs.Scripts.{Taken}
-use Rattle.bloom_steps.specs.Courses.{did, party_of, records_of}
+use Rattle.bloom_steps.proofs.Common.{eqb_tells, append-nil, none-some, same_Some, Record, Began, Did, Taken, did, party_of, records_of}
 
 -- a record of the party's own stays
 pub records_of-mine : (p : ℕ) (r : Record) (rs : List Record) → party_of r ≡ p

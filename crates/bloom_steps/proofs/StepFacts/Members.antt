@@ -1,9 +1,6 @@
 -- What is said of each member of a list, as one fact a member.
 use Rattle.std.proofs.Common.{◌≡◌, ◌∷◌, [], List, ℕ, zero, suc, Some, slice_get, subst, Bool, true, ◌&&◌}
-use Rattle.std.proofs.lemmas.Option.{none-some, same_Some}
-use Rattle.std.proofs.lemmas.Bool.{and_parts}
-use Rattle.bloom_steps.specs.Vocabulary.{Step, End}
-use Rattle.bloom_steps.specs.Scripts.{Taken}
+use Rattle.bloom_steps.proofs.Common.{none-some, same_Some, and_parts, Step, End, Taken}
 
 -- one fact for each member, by its index
 abbrev pub AllOf : {A : Type 0} → (ℕ → A → Type 0) → List A → Type 0

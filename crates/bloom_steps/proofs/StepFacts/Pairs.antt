@@ -1,7 +1,6 @@
 -- Scripts of calls that take the other filter's words in turn.
 use Rattle.std.proofs.Common.{◌∷◌, [], List, ℕ, refl, arith}
-use Rattle.bloom_steps.specs.Vocabulary.{Or, Other, Union, Running, Done}
-use Rattle.bloom_steps.specs.Scripts.{Taken, IsScript}
+use Rattle.bloom_steps.proofs.Common.{Or, Other, Union, Running, Done, Taken, IsScript}
 use Rattle.bloom_steps.proofs.StepFacts.Members.{each-member, took}
 
 -- a read of the other filter, and the `|` of what it found

@@ -1,16 +1,7 @@
 -- Steps of each plan over a store: at the places of a hash, at each word, and in pairs.
 use Rattle.std.proofs.Common.{[], ◌*◌, ◌/◌, ◌%◌, ◌^◌, ◌++◌, ◌+◌, ◌<◌, ◌≤◌, ◌∙◌, ◌∷◌, ◌≡◌, ◌↔◌, ◌&&◌, ◌==◌, Bool, List, None, Some, ap, arith, false, true, inl, inr, length, refl, subst, sym, ℕ, slice_get}
-use Rattle.std.proofs.lemmas.Bool.{both_ways}
-use Rattle.std.specs.Int.{bit_at}
-use Rattle.std.proofs.lemmas.Option.{none-some, same_Some}
+use Rattle.bloom_steps.proofs.Common.{both_ways, bit_at, none-some, same_Some, IsAt, chain, bit_is_on, index_of, place, End, Running, Done, Answer, Step, Or, Load, Other, EachPair, EachWord, LooksAt, TurnsOn, Any, DrivesPlan, Taken, or_at, load_at}
 use Rattle.bloom_parts.specs.declared.hasher.chain.DoubleHasher.{DoubleHasher}
-use Rattle.bloom_parts.specs.Chain.{IsAt, chain}
-use Rattle.bloom_parts.specs.Content.{bit_is_on, index_of}
-use Rattle.bloom_parts.specs.Places.{place}
-use Rattle.bloom_steps.specs.Vocabulary.{End, Running, Done, Answer, Step, Or, Load, Other}
-use Rattle.bloom_steps.specs.Plans.{EachPair, EachWord, LooksAt, TurnsOn}
-use Rattle.bloom_steps.specs.Scripts.{Any, DrivesPlan, Taken}
-use Rattle.bloom_steps.specs.Steps.{or_at, load_at}
 use Rattle.bloom_steps.proofs.StepLemmas.Driving.{HasGone, KeepsNothing, gone-next, gone-none, linked-more, made}
 use Rattle.bloom_steps.proofs.StepLemmas.Finding.{all_on-more}
 use Rattle.bloom_steps.proofs.StepLemmas.Growing.{FitsNext, goes_on-more, last_found-more, length-more, script-more}

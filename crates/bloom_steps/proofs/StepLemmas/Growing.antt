@@ -1,14 +1,6 @@
 -- Steps of a plan that grow by one at the end.
 use Rattle.std.proofs.Common.{[], ◌*◌, ◌++◌, ◌+◌, ◌<◌, ◌∙◌, ◌∷◌, ◌≡◌, ◌⊎◌, List, ap, arith, false, inl, inr, length, length-append, refl, subst, sym, take, true, ℕ}
-use Rattle.std.proofs.Math.Seq.{take-append_seam}
-use Rattle.std.proofs.lemmas.List.{take-append-le}
-use Rattle.bloom_parts.specs.Content.{bit_is_on}
-use Rattle.bloom_parts.specs.Places.{place}
-use Rattle.bloom_steps.specs.Plans.{EachPair, EachWord, LooksAt, Plan, TurnsOn}
-use Rattle.bloom_steps.specs.Vocabulary.{Answer, Done, Running, Step}
-use Rattle.bloom_steps.specs.Standing.{GoesOn, KeepsOn}
-use Rattle.bloom_steps.specs.Plans.{most_steps}
-use Rattle.bloom_steps.specs.Scripts.{AllButLast, AreStepsOf, Each, HasCount, IsLastEnd, Last, StopsRight, Taken, Fulfils, last_found, step_at}
+use Rattle.bloom_steps.proofs.Common.{take-append_seam, take-append-le, bit_is_on, place, EachPair, EachWord, LooksAt, Plan, TurnsOn, Answer, Done, Running, Step, GoesOn, KeepsOn, most_steps, AllButLast, AreStepsOf, Each, HasCount, IsLastEnd, Last, StopsRight, Taken, Fulfils, last_found, step_at}
 use Rattle.bloom_steps.proofs.StepLemmas.Members.{member_of_more}
 
 -- a step that fits a plan after these steps

@@ -1,9 +1,7 @@
 -- The bits of a word and of a mask.
 use Rattle.std.proofs.Common.{◌&&◌, ◌<◌, ◌^◌, ◌∙◌, ◌≡◌, ◌≢◌, ◌≤◌, ◌⊎◌, ◌↔◌, Bool, ap, arith, bit_and, eq-eqb, false, inl, inr, min, nat_eq, not, refl, suc, sym, true, zero, ℕ}
-use Rattle.std.specs.Int.{bit_at}
-use Rattle.std.proofs.lemmas.Bool.{and_parts, both_ways, cases_lt, eqb-false, eqb-true, not-true}
+use Rattle.bloom_steps.proofs.Common.{bit_at, and_parts, both_ways, cases_lt, eqb-false, eqb-true, not-true, HasAll}
 use Rattle.std.proofs.lemmas.Nat.Bits.{bit_at-lt, bit_at-zero, bit_at_and, same_from_bits_below}
-use Rattle.bloom_steps.specs.ByWords.{HasAll}
 
 -- the lesser of two digits is the second, where that one asks for the first
 lesser-second : (d e : ℕ) → d < 2 → e < 2 → (e ≡ 1 → d ≡ 1) → min d e ≡ e

@@ -1,14 +1,7 @@
 -- Masks set in a store, each by one step.
 use Rattle.std.proofs.Common.{[], ◌&&◌, ◌++◌, ◌+◌, ◌/◌, ◌<◌, ◌^◌, ◌∙◌, ◌∷◌, ◌≡◌, ◌≢◌, ◌≤◌, ◌↔◌, Bool, List, Some, ap, arith, false, inl, inr, length, refl, slice_get, slice_index, subst, sym, true, ℕ}
 use Rattle.std.proofs.Math.Bool.{and-true}
-use Rattle.std.proofs.lemmas.Bool.{and_right, both_ways, cases_lt}
-use Rattle.std.proofs.lemmas.Option.{none-some, slice_get_within}
-use Rattle.bloom_parts.specs.Content.{bit_is_on, content}
-use Rattle.bloom_parts.proofs.PublishedLemmas.{bit_is_on-zero}
-use Rattle.bloom_steps.specs.Vocabulary.{End, Answer, Running, Step, Or}
-use Rattle.bloom_steps.specs.ByWords.{DrivesByWords, HasAll, Lacks, SetsItsPart, SetsMask}
-use Rattle.bloom_steps.specs.Scripts.{AllButLast, Any, Each, Last, Linked, Taken}
-use Rattle.bloom_steps.specs.Steps.{word_index}
+use Rattle.bloom_steps.proofs.Common.{and_right, both_ways, cases_lt, none-some, slice_get_within, bit_is_on, content, bit_is_on-zero, End, Answer, Running, Step, Or, DrivesByWords, HasAll, Lacks, SetsItsPart, SetsMask, AllButLast, Any, Each, Last, Linked, Taken, word_index}
 use Rattle.bloom_steps.proofs.StepLemmas.Driving.{linked-more, made}
 use Rattle.bloom_steps.proofs.StepLemmas.Growing.{but_last-more, each-more, last_step-more}
 use Rattle.bloom_steps.proofs.StepLemmas.Members.{member-front, member-seam, member_of_more}

@@ -1,17 +1,7 @@
 -- How a machine that was replied stands one step further on.
 use Rattle.bloom_steps.proofs.StepLemmas.Finding.{all_on-more}
 use Rattle.std.proofs.Common.{[], ◌&&◌, ◌*◌, ◌++◌, ◌+◌, ◌<◌, ◌||◌, ◌∙◌, ◌∷◌, ◌≡◌, ◌≢◌, ◌⊎◌, Bool, List, None, Some, ap, arith, eq-eqb, false, if◌then◌else◌, inl, inr, length, nat_eq, not, refl, subst, sym, true, ℕ}
-use Rattle.std.proofs.lemmas.Bool.{both_ways, eqb-true}
-use Rattle.bloom_parts.specs.Content.{bit_is_on}
-use Rattle.bloom_parts.specs.Places.{place}
-use Rattle.bloom_steps.specs.Vocabulary.{Call, Answer, Running, Step}
-use Rattle.bloom_steps.specs.Plans.{EachPair, EachWord, LooksAt, Plan, TurnsOn, plan_of}
-use Rattle.bloom_steps.specs.declared.steps.machine.Machine.{Machine}
-use Rattle.bloom_steps.specs.Standing.{IsAtPlace, IsPlaced, Keeps, StandsAt, answer_by, asks, end_by, end_of}
-use Rattle.bloom_steps.specs.Plans.{most_steps}
-use Rattle.bloom_steps.specs.Scripts.{Taken, answer_of, answer_of_end}
-use Rattle.bloom_steps.specs.Standing.{Learns, MovesOn, Replied, ends_with}
-use Rattle.bloom_steps.specs.Machines.{StandsFurther}
+use Rattle.bloom_steps.proofs.Common.{both_ways, eqb-true, bit_is_on, place, Call, Answer, Running, Step, EachPair, EachWord, LooksAt, Plan, TurnsOn, plan_of, Machine, IsAtPlace, IsPlaced, Keeps, StandsAt, answer_by, asks, end_by, end_of, most_steps, Taken, answer_of, answer_of_end, Learns, MovesOn, Replied, ends_with, StandsFurther}
 use Rattle.bloom_steps.proofs.StepLemmas.Asking.{fits_asked}
 use Rattle.bloom_steps.proofs.StepLemmas.Growing.{EndsNext, KeepsOnAt, goes_on-more, last_found-more, length-more, script-more}
 
