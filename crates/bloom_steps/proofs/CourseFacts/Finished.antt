@@ -57,3 +57,15 @@ finished run party call began last e begins order step found here over all =
           let r = Did party s.step s.found e in
           runs_on party s.step s.found e (between party began last m r a b (on m r s.here));
     }
+
+-- whether a record begins no call, or one that passes a test
+abbrev begins_passing : (Call → Bool) → Record → Bool
+begins_passing test (Began party call) = test call
+begins_passing test (Did party step found ended) = true
+
+-- each call passes that begins among such records
+pub every-call : (test : Call → Bool) (rs : List Record)
+    → all_pass (λ i r. begins_passing test r) rs ≡ true
+    → (m party : ℕ) (call : Call) → slice_get rs m ≡ Some (Began party call) → test call ≡ true
+every-call test rs all m party call g =
+    each-passes (λ i r. begins_passing test r) rs all m (Began party call) g

@@ -44,20 +44,13 @@ runner answer m (suc (suc party)) is =
     absurd
     (both_ways (runs (suc (suc party)) (take m (in_turn_answering answer).records))
     (idle-past 2 (suc (suc party)) (in_turn_answering answer).records m refl (omega arith)) is)
-runner answer zero zero is = refl
-runner answer zero (suc zero) is = absurd (both_ways false refl is)
 runner answer (suc zero) zero is = refl
-runner answer (suc zero) (suc zero) is = absurd (both_ways false refl is)
 runner answer (suc (suc zero)) zero is = refl
-runner answer (suc (suc zero)) (suc zero) is = absurd (both_ways false refl is)
 runner answer (suc (suc (suc zero))) zero is = refl
-runner answer (suc (suc (suc zero))) (suc zero) is = absurd (both_ways false refl is)
-runner answer (suc (suc (suc (suc zero)))) zero is = absurd (both_ways false refl is)
 runner answer (suc (suc (suc (suc zero)))) (suc zero) is = refl
-runner answer (suc (suc (suc (suc (suc zero))))) zero is = absurd (both_ways false refl is)
-runner answer (suc (suc (suc (suc (suc zero))))) (suc zero) is = absurd (both_ways false refl is)
 runner answer (suc (suc (suc (suc (suc (suc m)))))) zero is = absurd (both_ways false refl is)
 runner answer (suc (suc (suc (suc (suc (suc m)))))) (suc zero) is = absurd (both_ways false refl is)
+runner answer m party is = absurd (both_ways false refl is)
 
 -- the union and the insert are made one at a time
 pub one-in_turn : (answer : Bool) → OneAtATime (in_turn_answering answer).records

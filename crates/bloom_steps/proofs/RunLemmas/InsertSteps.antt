@@ -73,8 +73,8 @@ module _ (run : Course) (m party : ℕ) (t : Taken)
       )
 
 -- the steps of an insert, in a course
-module _ (run : Course) (finds : FindsBits run) (party began last : ℕ) (ended : End)
-    (Is : ℕ → Type 0) (s : List Taken) (is : InsertSteps Is s)
+module _ {run : Course} (finds : FindsBits run) {party began last : ℕ} {ended : End}
+    {Is : ℕ → Type 0} {s : List Taken} (is : InsertSteps Is s)
     (own : OwnSteps run party began last ended s) where
   -- a step that found a position clear set it
   off-turns : (i : ℕ) (t : Taken) → slice_get s i ≡ Some t → FoundOff t

@@ -16,8 +16,8 @@ pub record LookSteps (k : ℕ) (at : ℕ → ℕ) (s : List Taken) : Type 0 wher
   pub last : Last s (λ i t. t.ended ≡ Answer (bit_is_on t.found (at i)))
 
 -- the steps of a look-up, in a course
-module _ (run : Course) (finds : FindsBits run) (party began last : ℕ) (answer : Bool) (k : ℕ)
-    (at : ℕ → ℕ) (s : List Taken) (is : LookSteps k at s)
+module _ {run : Course} (finds : FindsBits run) {party began last : ℕ} {answer : Bool} {k : ℕ}
+    {at : ℕ → ℕ} {s : List Taken} (is : LookSteps k at s)
     (own : OwnSteps run party began last (Answer answer) s) where
   -- what a step at a record found is the bit at that moment
   looked : (i : ℕ) (t : Taken) → slice_get s i ≡ Some t → (m : ℕ)

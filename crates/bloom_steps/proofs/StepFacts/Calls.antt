@@ -4,7 +4,8 @@ use Rattle.std.proofs.Common.{◌≡◌, ◌∙◌, ◌↔◌, ℕ, ◌*◌, ◌
 use Rattle.bloom_steps.proofs.Common.{none-some, chain, SharedWords, FoundByAnd, FoundByLoad, FoundByOr, FoundBySwap, InTurn, MadeZero, made-in_turn, place, And, Answer, Done, Insert, Load, Or, Other, Zero, EachInTurn, IsMade, MakesCallInTurn, MakesCallOn, MakesStepInSpan, Span, TakesWordsOf, WasInserted, WereInserted, Each, Linked, Taken, or_at}
 use Rattle.bloom_steps.specs.declared.steps.vocabulary.Step.TheVariants.{Take}
 use Rattle.bloom_steps.proofs.LiveLemmas.{insert-answers}
-use Rattle.bloom_steps.proofs.StepFacts.Members.{each-member, took}
+use Rattle.bloom_steps.proofs.StepFacts.Members.{one-step, took}
+use Rattle.bloom_steps.proofs.StepLemmas.Finding.{ends-off}
 use Rattle.bloom_steps.proofs.TakenLemmas.{taken-count}
 
 -- a step is made on the filter's own words, but a load of the other's word on the other's
@@ -76,13 +77,7 @@ inserts name first last = (
   λ did. record {
     did = record {
       taken = set;
-      script = record {
-        count = refl;
-        steps = each-member _ set (refl, tt);
-        stops = tt;
-        running = each-member _ set ((λ early. absurd (omega (arith, early))), tt);
-        last = each-member _ set ((λ closes. (false, refl, ((λ e. (0, _, refl, refl)), (λ any. refl)))), tt);
-      };
+      script = one-step 1 1 _ _ refl refl tt (ends-off 1 0 set 0 _ refl refl);
       first = first;
       last = last;
       made = (last, did, refl);
@@ -135,13 +130,7 @@ takes name first last word = (
   λ did. record {
     made = record {
       taken = swap word;
-      script = record {
-        count = refl;
-        steps = each-member _ (swap word) (refl, tt);
-        stops = tt;
-        running = each-member _ (swap word) ((λ early. absurd (omega (arith, early))), tt);
-        last = each-member _ (swap word) ((λ closes. refl), tt);
-      };
+      script = one-step 1 1 _ _ refl refl tt refl;
       first = first;
       last = last;
       made = (last, did, refl);
