@@ -32,7 +32,7 @@ unfolding content chain
 ends = (
   ends_with_all 2 twins lawful-twins,
   (λ told.
-      let on = (told (every-call (λ call. turns_none_off (plan_of call)) twins.records refl) ended 20).1
-      (inr (inl (inserted (1 ∷ [])))) in
+      let passes = every-call (λ call. turns_none_off (plan_of call)) twins.records refl in
+      let on = (told passes ended 20).1 (inr (inl (inserted (1 ∷ [])))) in
       cc),
 )

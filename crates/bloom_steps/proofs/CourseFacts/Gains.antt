@@ -11,22 +11,28 @@ twins-set : sum_by bits_gained twins.records ≡ 2
 unfolding bits_new
 twins-set = refl
 
--- the twins with one position in the end
-abbrev one_gained : Course
-one_gained = record twins { words = 1 ∷ [] }
+-- the twins with another word in the end
+abbrev ending : ℕ → Course
+ending word = record twins { words = word ∷ [] }
 
--- the twins with one position in the end gained one
-few-gained :
-    count_below 64 (λ p. content one_gained.words p && not (content one_gained.start p)) ≡ 1
+-- how many positions such twins gain
+abbrev gain : ℕ → ℕ
+gain word = count_below 64 (λ p. content (word ∷ []) p && not (content (0 ∷ []) p))
+
+-- with position 0 alone one, and with position 1 besides its own three
+gained : (gain 1 ≡ 1) × (gain 1048579 ≡ 3)
 unfolding content
-few-gained = refl
+gained = (refl, refl)
 
--- the twins gain as many positions as their steps set, and not with one position fewer
+-- the twins gain as many positions as their steps set, and not one fewer or one more
 gains : CountsGains twins
-    × (CountsGains one_gained → ⊥)
+    × (CountsGains (ending 1) → ⊥)
+    × (CountsGains (ending 1048579) → ⊥)
 gains = (
   counts_gains 2 twins lawful-twins,
-  (λ counts.
-      let two = counts (every-call (λ call. goes_by_hash (plan_of call)) twins.records refl) in
-      omega (arith, sym twins-set, two, few-gained)),
+  λ counts. (let two = counts by_hash in omega (arith, sym twins-set, two, gained.0)),
+  λ counts. (let two = counts by_hash in omega (arith, sym twins-set, two, gained.1)),
 )
+  where
+    by_hash : EveryCall goes_by_hash twins.records
+    by_hash = every-call (λ call. goes_by_hash (plan_of call)) twins.records refl

@@ -111,7 +111,8 @@ module _ (op : ℕ → ℕ → Step) (on : Bool) (by : TurnsBy op on) (plain : R
   pairs-all : (q : ℕ) → AllDecide s q (made on (content (other_words s) q))
   pairs-all q j u g = elim (parity j) [
     | inl even ↦
-        inl (ap (λ x. step_decides x q) (reads w op on s steps even.0 u (ap (slice_get s) (sym even.1) ∙ g)))
+        let here = ap (slice_get s) (sym even.1) ∙ g in
+        inl (ap (λ x. step_decides x q) (reads w op on s steps even.0 u here))
     | inr odd ↦
         let i = odd.0 in
         let within = slice_get_within s j u g in
@@ -132,6 +133,6 @@ module _ (op : ℕ → ℕ → Step) (on : Bool) (by : TurnsBy op on) (plain : R
   pairs-steps p A q inside =
       let t = some_member s (2 * (q / 64)) (omega arith) in
       let u = some_member s (2 * (q / 64) + 1) (omega arith) in
+      let write = operates w op on s steps (q / 64) t.0 u.0 t.1 u.1 in
       steps-some p s A q (made on (content (other_words s) q)) (pairs-all q) (2 * (q / 64) + 1) u.0
-      u.1
-      (write-decides q (q / 64) t.0 u.0 t.1 (operates w op on s steps (q / 64) t.0 u.0 t.1 u.1) refl)
+      u.1 (write-decides q (q / 64) t.0 u.0 t.1 write refl)

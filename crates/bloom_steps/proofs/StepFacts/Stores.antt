@@ -9,12 +9,14 @@ use Rattle.bloom_steps.proofs.StepLemmas.Whole.{silent}
 abbrev pub memory : ℕ → Memory
 memory word = record { words = word ∷ []; other = 5 ∷ [] }
 
--- an or finds the word as it was, and not as it leaves it
+-- an or finds the word as it was, and not as it leaves it, and keeps the other filter's
 moves : Moves (memory 9) (Or 0 3) 9 (memory 11)
     × (Moves (memory 9) (Or 0 3) 11 (memory 11) → ⊥)
+    × (Moves (memory 9) (Or 0 3) 9 (record (memory 11) { other = 6 ∷ [] }) → ⊥)
 moves = (
   record { within = omega arith; finds = refl; writes = refl; kept = refl },
   (λ m. omega (arith, m.finds)),
+  (λ m. let kept = m.kept in cc),
 )
 
 -- a union of one word
