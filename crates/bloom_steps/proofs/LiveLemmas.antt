@@ -1,11 +1,7 @@
 -- From the steps of a store that lends shared words to the calls on them.
 use Rattle.std.proofs.Common.{◌≡◌, ◌∙◌, ℕ, suc, ◌+◌, ◌≤◌, Bool, List, [], ◌∷◌, length, Option, Some, None, ap, refl, subst, sym, arith, slice_get}
-use Rattle.std.proofs.lemmas.Option.{none-some}
-use Rattle.bloom_parts.specs.Made.{SharedWords}
-use Rattle.bloom_steps.specs.Vocabulary.{Contains, Insert, Done, Call}
-use Rattle.bloom_steps.specs.LiveSteps.{EachInTurn, IsMade, Lent, MakesCallInTurn, MakesCallOn, MakesStep, WasInserted}
-use Rattle.bloom_steps.specs.Plans.{plan_of}
-use Rattle.bloom_steps.specs.Scripts.{Taken, Each, Linked, IsScript, IsLastEnd, Drives, answer_of, answer_of_end}
+use Rattle.bloom_steps.proofs.Common.{none-some, SharedWords, Contains, Insert, Done, Call, EachInTurn, IsMade, Lent, MakesCallInTurn, MakesCallOn, MakesStep, WasInserted, plan_of, Taken, Each, Linked, IsScript, IsLastEnd, Drives, answer_of, answer_of_end}
+use Rattle.bloom_steps.proofs.StepLemmas.Whole.{last-of, silent}
 
 -- linked steps of a store were made, from turn to turn, on the words that it lends
 pub steps-made : (words other : SharedWords) (taken : List Taken) (before after : Lent)
@@ -41,37 +37,6 @@ drives-call words other hashes call reply store after is_words is_other drives =
   begins = refl;
   ends = refl;
 }
-
--- the last of some steps
-pub record LastOf (s : List Taken) : Type 0 where
-  pub index : ℕ
-  pub step : Taken
-  pub is_last : index + 1 ≡ length s
-  pub stands : slice_get s index ≡ Some step
-  pub answers : answer_of s ≡ answer_of_end step.ended
-
--- some steps have a last one, which gives their answer
-pub last-of : (s : List Taken) → 1 ≤ length s → LastOf s
-last-of [] some = absurd (omega (arith, some))
-last-of (t ∷ []) some =
-    record { index = 0; step = t; is_last = refl; stands = refl; answers = refl }
-last-of (t ∷ (u ∷ rest)) some =
-    let last = last-of (u ∷ rest) (omega arith) in
-    record {
-      index = suc last.index;
-      step = last.step;
-      is_last = omega (arith, last.is_last);
-      stands = last.stands;
-      answers = last.answers;
-    }
-
--- steps that end with `Done` have no answer
-pub silent : (s : List Taken) → Each s (λ i t. i + 1 ≡ length s → t.ended ≡ Done)
-    → answer_of s ≡ None
-silent [] ends = refl
-silent (t ∷ rest) ends =
-    let last = last-of (t ∷ rest) (omega arith) in
-    last.answers ∙ ap answer_of_end (ends last.index last.step last.stands last.is_last)
 
 -- a script of an insert has an answer
 pub insert-answers : (w k hash : ℕ) (s : List Taken) → 1 ≤ k → IsScript w k (Insert hash) s

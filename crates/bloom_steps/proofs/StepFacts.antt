@@ -1,5 +1,6 @@
 pub mod Asked
 pub mod ByWords
+pub mod Calls
 pub mod Machines
 pub mod Members
 pub mod Pairs

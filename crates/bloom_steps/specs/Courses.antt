@@ -1,5 +1,6 @@
 -- Courses of finished runs: lawful, and following a schedule. The rules are this project's own.
-use Rattle.std.specs.Prelude.{ℕ, ◌/◌, ◌^◌, ◌<◌, ◌≡◌, ◌⊎◌, ◌==◌, Bool, true, false, List, [], ◌∷◌, ◌++◌, length, Some, slice_get, take, if◌then◌else◌}
+use Rattle.std.specs.Prelude.{ℕ, ◌/◌, ◌^◌, ◌<◌, ◌≡◌, ◌⊎◌, ◌==◌, Bool, true, false, List, [], ◌∷◌, ◌++◌, length, map, Some, slice_get, take}
+use Rattle.std.specs.List.{filter}
 use Rattle.bloom_parts.specs.Content.{AreWords, bit_is_on, content}
 use Rattle.bloom_steps.specs.Vocabulary.{Step, Load, Or, And, Zero, Other, Call, End, Running, Done, Answer, Event, Begin, Go, Record, Began, Did}
 use Rattle.bloom_steps.specs.declared.steps.vocabulary.Step.TheVariants.{Take}
@@ -40,14 +41,11 @@ party_of (Did party step found ended) = party
 
 -- the records of one party, in order
 unfoldable pub records_of : ℕ → List Record → List Record
-records_of party [] = []
-records_of party (r ∷ rs) =
-    if party_of r == party then r ∷ records_of party rs else records_of party rs
+records_of party records = filter (λ r. party_of r == party) records
 
 -- the records of a party that made these steps
 abbrev pub did : ℕ → List Taken → List Record
-did party [] = []
-did party (t ∷ ts) = Did party t.step t.found t.ended ∷ did party ts
+did party s = map (λ t. Did party t.step t.found t.ended) s
 
 -- the records of a call of a party: its beginning, and its steps
 abbrev pub call_records : ℕ → Call → List Taken → List Record

@@ -1,7 +1,7 @@
 -- The scripts of a call. A script is a whole list of word steps that the call may make, with the
 -- word that each found and how the call stood after it. Which steps make up a call is this
 -- project's choice; the positions of a hash are those of the crate fastbloom 0.17.0.
-use Rattle.std.specs.Prelude.{ℕ, ◌+◌, ◌*◌, ◌≤◌, ◌<◌, ◌≡◌, ◌↔◌, Bool, true, false, List, [], ◌∷◌, ◌++◌, length, Option, Some, None, slice_get}
+use Rattle.std.specs.Prelude.{ℕ, ◌+◌, ◌*◌, ◌/◌, ◌%◌, ◌≤◌, ◌<◌, ◌≡◌, ◌↔◌, ◌==◌, Bool, true, false, List, [], ◌∷◌, ◌++◌, length, take, Option, Some, None, slice_get, if◌then◌else◌}
 use Rattle.bloom_parts.specs.Content.{bit_is_on}
 use Rattle.bloom_parts.specs.Places.{place}
 use Rattle.bloom_steps.specs.Vocabulary.{Step, Other, Call, End, Running, Done, Answer}
@@ -37,19 +37,24 @@ HasCount w k (LooksAt hash) count = (1 ≤ count) × (count ≤ k)
 HasCount w k (EachWord operation) count = count ≡ w
 HasCount w k (EachPair operation on) count = count ≡ 2 * w
 
--- for each word: a load of the other filter's word, then the operation with what that found
-pub record ArePairs (operation : ℕ → ℕ → Step) (s : List Taken) : Type 0 where
-  pub loads : (i : ℕ) (t : Taken) → slice_get s (2 * i) ≡ Some t → t.step ≡ Other i
-  pub writes : (i : ℕ) (t u : Taken) → slice_get s (2 * i) ≡ Some t
-      → slice_get s (2 * i + 1) ≡ Some u
-      → u.step ≡ operation i t.found
+-- the word that the last of some steps found, or 0 where there is none
+abbrev pub last_found : List Taken → ℕ
+last_found [] = 0
+last_found (t ∷ []) = t.found
+last_found (t ∷ (u ∷ rest)) = last_found (u ∷ rest)
+
+-- the step of a plan at an index, where the step before it found this word: a plan of pairs reads
+-- each word of the other filter, and then operates with what that found
+abbrev pub step_at : ℕ → Plan → ℕ → ℕ → Step
+step_at w (TurnsOn hash) i found = or_at (place (64 * w) hash i)
+step_at w (LooksAt hash) i found = load_at (place (64 * w) hash i)
+step_at w (EachWord operation) i found = operation i
+step_at w (EachPair operation on) i found =
+    if i % 2 == 0 then Other (i / 2) else operation (i / 2) found
 
 -- the step at each index is the plan's
 abbrev pub AreStepsOf : ℕ → Plan → List Taken → Type 0
-AreStepsOf w (TurnsOn hash) s = Each s (λ i t. t.step ≡ or_at (place (64 * w) hash i))
-AreStepsOf w (LooksAt hash) s = Each s (λ i t. t.step ≡ load_at (place (64 * w) hash i))
-AreStepsOf w (EachWord operation) s = Each s (λ i t. t.step ≡ operation i)
-AreStepsOf w (EachPair operation on) s = ArePairs operation s
+AreStepsOf w plan s = Each s (λ i t. t.step ≡ step_at w plan i (last_found (take i s)))
 
 -- the steps so far found the bits set that they looked at
 abbrev pub AllFoundOn : ℕ → ℕ → List Taken → Type 0

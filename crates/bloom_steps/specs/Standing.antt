@@ -9,19 +9,15 @@ use Rattle.bloom_steps.specs.Vocabulary.{Step, Other, Call, End, Running, Done, 
 use Rattle.bloom_steps.specs.declared.steps.machine.Machine.{Machine}
 use Rattle.bloom_steps.specs.Plans.{Plan, TurnsOn, LooksAt, EachWord, EachPair, most_steps, plan_of}
 use Rattle.bloom_steps.specs.Steps.{or_at, load_at}
-use Rattle.bloom_steps.specs.Scripts.{Taken, Each, Any, IsScript, AreStepsOf, AllFoundOn, answer_of}
-
--- the next step of a plan of pairs: a read of the other filter, or the operation with what it found
-abbrev pub next_of_pairs : (ℕ → ℕ → Step) → Machine → Step
-next_of_pairs operation m =
-    if m.turn % 2 == 0 then Other (m.turn / 2) else operation (m.turn / 2) m.other
+use Rattle.bloom_steps.specs.Scripts.{Taken, Each, Any, IsScript, AreStepsOf, AllFoundOn, answer_of, last_found}
 
 -- the next step of a machine whose plan goes on
 abbrev pub next_step : Plan → Machine → Step
 next_step (TurnsOn hash) m = or_at m.place
 next_step (LooksAt hash) m = load_at m.place
 next_step (EachWord operation) m = operation m.turn
-next_step (EachPair operation on) m = next_of_pairs operation m
+next_step (EachPair operation on) m =
+    if m.turn % 2 == 0 then Other (m.turn / 2) else operation (m.turn / 2) m.other
 
 -- the step that a machine asks for
 abbrev pub asks : Machine → Option Step
@@ -77,18 +73,13 @@ IsPlaced w (LooksAt hash) m i = IsAtPlace w hash i m
 IsPlaced w (EachWord operation) m i = Unit {0}
 IsPlaced w (EachPair operation on) m i = Unit {0}
 
--- between the two steps of a pair the machine holds what the first found
-abbrev pub HoldsOther : Machine → List Taken → Type 0
-HoldsOther m s =
-    (i : ℕ) (t : Taken) → length s ≡ 2 * i + 1 → slice_get s (2 * i) ≡ Some t → m.other ≡ t.found
-
 -- what a machine keeps of the words found
 abbrev pub Keeps : ℕ → Plan → Machine → List Taken → Type 0
 Keeps w (TurnsOn hash) m s =
     (m.all_on ≡ false) ↔ Any s (λ i t. bit_is_on t.found (place (64 * w) hash i) ≡ false)
 Keeps w (LooksAt hash) m s = Unit {0}
 Keeps w (EachWord operation) m s = Unit {0}
-Keeps w (EachPair operation on) m s = HoldsOther m s
+Keeps w (EachPair operation on) m s = m.other ≡ last_found s
 
 -- the machine stands where these steps of the call leave it
 pub record StandsAt (m : Machine) (w k : ℕ) (of : Call) (s : List Taken) : Type 0 where

@@ -1,11 +1,7 @@
 -- Courses whose records were carried out: two inserts of one fresh hash are one, and where one of
 -- them answers otherwise they are none.
 use Rattle.std.proofs.Common.{◌∷◌, [], arith, false, lit<, refl, true}
-use Rattle.bloom_parts.specs.Places.{IsPosition, are_in}
-use Rattle.bloom_steps.specs.Vocabulary.{Answer, Did, Or}
-use Rattle.bloom_steps.specs.Carried.{CarriedOut, IsCourseOf}
-use Rattle.bloom_steps.specs.CourseLaws.{CourseTells, LawfulTells}
-use Rattle.bloom_steps.specs.Scripts.{IsScript}
+use Rattle.bloom_steps.proofs.Common.{IsPosition, are_in, Answer, Did, Or, CarriedOut, IsCourseOf, CourseTells, LawfulTells, IsScript}
 use Rattle.bloom_steps.proofs.CourseFacts.Courses.{twins, twins_answering}
 use Rattle.bloom_steps.proofs.CourseFacts.Inserts.{inserts_tell}
 use Rattle.bloom_steps.proofs.CourseFacts.Lawful.{lawful-twins}

@@ -1,11 +1,6 @@
 -- How a course is seen to find what is there: its steps are carried out on the words.
 use Rattle.std.proofs.Common.{◌≡◌, ◌<◌, ◌^◌, ◌∷◌, [], List, ℕ, Bool, zero, suc, take, length, ap, sym, subst, ◌∙◌, unwrap_or, refl, map}
-use Rattle.std.proofs.lemmas.Option.{none-some, same_Some}
-use Rattle.bloom_parts.specs.Content.{AreWords, content}
-use Rattle.bloom_steps.specs.Vocabulary.{Record, Began, Did}
-use Rattle.bloom_steps.specs.Memories.{found_in, words_after_step}
-use Rattle.bloom_steps.specs.Steps.{after_records, record_decides, step_decides, word_index}
-use Rattle.bloom_steps.specs.Courses.{CallAfterCall, Course, FindsWhatIsThere, IsLawful, MayFind, records_of}
+use Rattle.bloom_steps.proofs.Common.{none-some, same_Some, AreWords, content, Record, Began, Did, found_in, words_after_step, after_records, record_decides, step_decides, word_index, CallAfterCall, Course, FindsWhatIsThere, IsLawful, MayFind, records_of}
 use Rattle.bloom_steps.proofs.RunLemmas.Worlds.{may_find-read}
 use Rattle.bloom_steps.proofs.StepLemmas.Deciding.{state-first}
 use Rattle.bloom_steps.proofs.StepLemmas.Writing.{content-step}

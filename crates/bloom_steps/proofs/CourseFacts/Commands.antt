@@ -1,10 +1,6 @@
 -- What the theorem on one call at a time says of the worked courses.
 use Rattle.std.proofs.Common.{◌∷◌, [], List, Bool, false, refl, arith}
-use Rattle.bloom_parts.specs.Chain.{chain}
-use Rattle.bloom_parts.specs.Content.{content}
-use Rattle.bloom_parts.specs.Places.{are_in, positions}
-use Rattle.bloom_steps.specs.Vocabulary.{Or, Other, Insert, Union, Running, Done, Answer}
-use Rattle.bloom_steps.specs.Sequences.{ActsAs, ActsAsCommands, MadeCall}
+use Rattle.bloom_steps.proofs.Common.{chain, content, are_in, positions, Or, Other, Insert, Union, Running, Done, Answer, ActsAs, ActsAsCommands, MadeCall}
 use Rattle.bloom_steps.proofs.StepFacts.Members.{took}
 use Rattle.bloom_steps.proofs.CourseFacts.Courses.{in_turn, in_turn_answering}
 use Rattle.bloom_steps.proofs.CourseFacts.Lawful.{lawful-in_turn}

@@ -1,9 +1,7 @@
 -- Worked courses, of which the facts beside speak. Hash 0 has position 0 alone. Hash 1 has the
 -- positions 0 and 20 of 64 bits, and 0, 40 and 64 of 128.
 use Rattle.std.proofs.Common.{◌≡◌, refl, ◌∷◌, [], Bool, true, false}
-use Rattle.bloom_steps.specs.Vocabulary.{Load, Or, Other, Insert, Contains, Union, Running, Done, Answer, Began, Did}
-use Rattle.bloom_steps.specs.Courses.{Course}
-use Rattle.bloom_steps.specs.Moments.{bits_of}
+use Rattle.bloom_steps.proofs.Common.{Load, Or, Other, Insert, Contains, Union, Running, Done, Answer, Began, Did, Course, bits_of}
 
 -- two inserts of one fresh hash, of which the first gives this answer
 abbrev pub twins_answering : Bool → Course

@@ -1,13 +1,8 @@
 -- What the theorem on growing runs says of the worked courses.
 use Rattle.std.proofs.Common.{◌∷◌, [], List, zero, suc, ℕ, refl, arith, inl, inr}
-use Rattle.bloom_parts.specs.Chain.{chain}
-use Rattle.bloom_parts.specs.Content.{content}
-use Rattle.bloom_steps.specs.CourseLaws.{EndsWithAll, IsInserted}
-use Rattle.bloom_steps.specs.Moments.{EveryCallEnded}
-use Rattle.bloom_steps.specs.Courses.{records_of}
-use Rattle.bloom_steps.specs.Plans.{turns_none_off}
+use Rattle.bloom_steps.proofs.Common.{chain, content, EndsWithAll, IsInserted, EveryCallEnded, records_of, turns_none_off, plan_of}
 use Rattle.bloom_steps.proofs.CourseFacts.Courses.{twins}
-use Rattle.bloom_steps.proofs.CourseFacts.Gains.{twins-pass}
+use Rattle.bloom_steps.proofs.CourseFacts.Finished.{every-call}
 use Rattle.bloom_steps.proofs.CourseFacts.Lawful.{lawful-twins}
 use Rattle.bloom_steps.proofs.CourseFacts.Parties.{idle-past}
 use Rattle.bloom_steps.proofs.RunLemmas.Grows.{ends_with_all}
@@ -37,7 +32,7 @@ unfolding content chain
 ends = (
   ends_with_all 2 twins lawful-twins,
   (λ told.
-      let on = (told (twins-pass turns_none_off refl) ended 20).1
-      (inr (inl (inserted (1 ∷ [])))) in
+      let passes = every-call (λ call. turns_none_off (plan_of call)) twins.records refl in
+      let on = (told passes ended 20).1 (inr (inl (inserted (1 ∷ [])))) in
       cc),
 )

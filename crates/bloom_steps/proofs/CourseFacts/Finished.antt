@@ -1,10 +1,7 @@
 -- Which calls of the worked courses are finished, and which not.
 use Rattle.std.proofs.Common.{◌≡◌, ◌≢◌, ◌<◌, List, ℕ, Some, slice_get, true, refl, Bool, not, ◌&&◌, ◌||◌, ◌==◌, ap, sym, ◌∙◌, ltb}
-use Rattle.bloom_steps.specs.Vocabulary.{Step, Call, Clear, End, Running, Done, Answer, Record, Began, Did}
-use Rattle.bloom_steps.specs.Courses.{Course}
-use Rattle.bloom_steps.specs.Moments.{IsStepAt, IsFinished}
+use Rattle.bloom_steps.proofs.Common.{Step, Call, Clear, End, Running, Done, Answer, Record, Began, Did, Course, IsStepAt, IsFinished, both_ways, and_from, eq-eqb, lt-ltb}
 use Rattle.bloom_steps.proofs.StepFacts.Members.{all_pass, each-passes}
-use Rattle.std.proofs.lemmas.Bool.{both_ways, and_from, eq-eqb, lt-ltb}
 
 -- whether a record leaves a party's call going on: it is no beginning and no end of the party's
 abbrev leaves : ℕ → Record → Bool
@@ -26,10 +23,7 @@ no_beginning party call e =
 runs_on : (party : ℕ) (step : Step) (found : ℕ) (e : End)
     → leaves party (Did party step found e) ≡ true → e ≡ Running
 runs_on party step found Running is = refl
-runs_on party step found Done is =
-    absurd (no_beginning party Clear is)
-runs_on party step found (Answer reply) is =
-    absurd (no_beginning party Clear is)
+runs_on party step found end is = absurd (no_beginning party Clear is)
 
 -- a record between the two leaves a party's call going on
 between : (party began last m : ℕ) (r : Record) → began < m → m < last
@@ -63,3 +57,15 @@ finished run party call began last e begins order step found here over all =
           let r = Did party s.step s.found e in
           runs_on party s.step s.found e (between party began last m r a b (on m r s.here));
     }
+
+-- whether a record begins no call, or one that passes a test
+abbrev begins_passing : (Call → Bool) → Record → Bool
+begins_passing test (Began party call) = test call
+begins_passing test (Did party step found ended) = true
+
+-- each call passes that begins among such records
+pub every-call : (test : Call → Bool) (rs : List Record)
+    → all_pass (λ i r. begins_passing test r) rs ≡ true
+    → (m party : ℕ) (call : Call) → slice_get rs m ≡ Some (Began party call) → test call ≡ true
+every-call test rs all m party call g =
+    each-passes (λ i r. begins_passing test r) rs all m (Began party call) g

@@ -1,8 +1,6 @@
 -- What the theorem on the answers of inserts says of the worked courses.
 use Rattle.std.proofs.Common.{Bool, true, refl, arith}
-use Rattle.bloom_parts.specs.Content.{content}
-use Rattle.bloom_steps.specs.Vocabulary.{Or, Insert, Running, Answer}
-use Rattle.bloom_steps.specs.Interleavings.{InsertsTell, TurnsOneOn}
+use Rattle.bloom_steps.proofs.Common.{content, Or, Insert, Running, Answer, InsertsTell, TurnsOneOn}
 use Rattle.bloom_steps.proofs.CourseFacts.Courses.{twins, twins_answering}
 use Rattle.bloom_steps.proofs.CourseFacts.Finished.{finished, step_at}
 use Rattle.bloom_steps.proofs.CourseFacts.Lawful.{lawful-twins}

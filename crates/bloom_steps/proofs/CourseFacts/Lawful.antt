@@ -1,14 +1,9 @@
 -- Worked courses that are lawful.
 use Rattle.std.proofs.Common.{◌≡◌, ◌∷◌, [], List, ℕ, zero, suc, true, false, refl, arith, sym, subst, lit<, ◌<◌, ◌^◌, ◌∙◌}
 use Rattle.std.proofs.lemmas.List.Elements.{All-cons, All-nil}
-use Rattle.bloom_parts.specs.Chain.{chain}
-use Rattle.bloom_parts.specs.Content.{AreWords, bit_is_on, content}
-use Rattle.bloom_parts.specs.Places.{place}
-use Rattle.bloom_steps.specs.Vocabulary.{Load, Or, Other, Insert, Contains, Union, Began, Did, Running, Done, Answer}
-use Rattle.bloom_steps.specs.Scripts.{Any, Taken, IsScript}
-use Rattle.bloom_steps.specs.Courses.{CallAfterCall, IsLawful, no_call, begun_call, whole_call, records_of}
-use Rattle.bloom_steps.proofs.StepFacts.Members.{each-member, took}
-use Rattle.bloom_steps.proofs.StepFacts.Pairs.{one-pair}
+use Rattle.bloom_steps.proofs.Common.{chain, AreWords, bit_is_on, content, place, Load, Or, Other, Insert, Contains, Union, Began, Did, Running, Done, Answer, Any, Taken, IsScript, CallAfterCall, IsLawful, no_call, begun_call, whole_call, records_of}
+use Rattle.bloom_steps.proofs.StepFacts.Members.{each-member, one-step, took}
+use Rattle.bloom_steps.proofs.StepFacts.Pairs.{read_write, read_write-script}
 use Rattle.bloom_steps.proofs.StepFacts.Scripts.{insert, is_script}
 use Rattle.bloom_steps.proofs.CourseFacts.Carrying.{carried}
 use Rattle.bloom_steps.proofs.CourseFacts.Courses.{twins, in_turn, insert_then_contains}
@@ -26,13 +21,7 @@ inserted = took (Or 0 1) 4 (Answer false) ∷ []
 -- an or that found its bit clear is a whole insert of one hash
 pub inserted-script : IsScript 1 1 (Insert 0) inserted
 unfolding chain
-inserted-script = record {
-  count = refl;
-  steps = each-member _ inserted (refl, tt);
-  stops = tt;
-  running = each-member _ inserted ((λ l. absurd (omega (arith, l))), tt);
-  last = each-member _ inserted ((λ l. ends-off 1 0 inserted 0 _ refl refl), tt);
-}
+inserted-script = one-step 1 1 _ _ refl refl tt (ends-off 1 0 inserted 0 _ refl refl)
 
 -- a look-up of one load, which found its bit set
 abbrev found : List Taken
@@ -41,30 +30,13 @@ found = took (Load 0) 5 (Answer true) ∷ []
 -- a load that found its bit set is a whole look-up of one hash
 found-script : IsScript 1 1 (Contains 0) found
 unfolding chain
-found-script = record {
-  count = (omega arith, omega arith);
-  steps = each-member _ found (refl, tt);
-  stops = record {
-    earlier = each-member _ found ((λ l. absurd (omega (arith, l))), tt);
-    early = each-member _ found ((λ l m. absurd (omega (arith, m))), tt);
-  };
-  running = each-member _ found ((λ l. absurd (omega (arith, l))), tt);
-  last = each-member _ found ((λ l. each-member _ found ((λ m. refl), tt)), tt);
-}
-
--- a union of one word
-abbrev read_write : ℕ → List Taken
-read_write other = took (Other 0) other Running ∷ took (Or 0 other) 0 Done ∷ []
-
--- a read and a write are a whole union of one word
-read_write-script : (other : ℕ) → IsScript 1 1 Union (read_write other)
-read_write-script other = record {
-  count = refl;
-  steps = one-pair Or 0 other;
-  stops = tt;
-  running = each-member _ (read_write other) ((λ l. refl), ((λ l. absurd (omega (arith, l))), tt));
-  last = each-member _ (read_write other) ((λ l. absurd (omega (arith, l))), ((λ l. refl), tt));
-}
+found-script =
+    one-step 1 1 _ _ (omega arith, omega arith) refl
+    (record {
+      earlier = each-member _ found ((λ l. absurd (omega (arith, l))), tt);
+      early = each-member _ found ((λ l m. absurd (omega (arith, m))), tt);
+    })
+    (each-member _ found ((λ m. refl), tt))
 
 -- the calls of each party of the insert, the look-up and the union
 calls : (party : ℕ) → CallAfterCall 1 1 party (records_of party insert_then_contains.records)
@@ -72,7 +44,7 @@ unfolding records_of
 calls zero =
     whole_call (Insert 0) inserted _ inserted-script
     (begun_call Union (took (Other 0) 9 Running ∷ [])
-    (record { next = _; rest = _; script = read_write-script 9 }))
+    (record { next = _; rest = _; script = read_write-script 1 9 }))
 calls (suc zero) = whole_call (Contains 0) found [] found-script no_call
 calls (suc (suc party)) =
     subst (CallAfterCall 1 1 (suc (suc party)))
@@ -134,13 +106,7 @@ known = took (Or 0 1) 5 (Answer true) ∷ []
 -- an or that found its bit set is a whole insert of one hash
 known-script : IsScript 1 1 (Insert 0) known
 unfolding chain
-known-script = record {
-  count = refl;
-  steps = each-member _ known (refl, tt);
-  stops = tt;
-  running = each-member _ known ((λ l. absurd (omega (arith, l))), tt);
-  last = each-member _ known ((λ l. (true, refl, ((λ e. absurd (cc)), off))), tt);
-}
+known-script = one-step 1 1 _ _ refl refl tt (true, refl, ((λ e. absurd (cc)), off))
   where
     off : Any known (λ i t. bit_is_on t.found (place 64 0 i) ≡ false) → true ≡ false
     off (i, t, here, is) =
@@ -151,7 +117,7 @@ known-script = record {
 -- the calls of each party of a union, and then an insert
 calls-in_turn : (party : ℕ) → CallAfterCall 1 1 party (records_of party in_turn.records)
 unfolding records_of
-calls-in_turn zero = whole_call Union (read_write 5) [] (read_write-script 5) no_call
+calls-in_turn zero = whole_call Union (read_write 5) [] (read_write-script 1 5) no_call
 calls-in_turn (suc zero) = whole_call (Insert 0) known [] known-script no_call
 calls-in_turn (suc (suc party)) =
     subst (CallAfterCall 1 1 (suc (suc party)))

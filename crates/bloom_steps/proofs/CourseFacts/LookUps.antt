@@ -1,12 +1,6 @@
 -- What the theorems on look-ups say of the worked courses.
 use Rattle.std.proofs.Common.{◌≡◌, ◌∙◌, ap, true, false, Bool, refl, arith, sym, subst, zero, suc, ℕ, ◌≤◌}
-use Rattle.std.proofs.lemmas.Bool.{both_ways}
-use Rattle.bloom_parts.specs.Chain.{chain}
-use Rattle.bloom_parts.specs.Content.{content}
-use Rattle.bloom_parts.specs.Places.{IsPosition, are_in, place}
-use Rattle.bloom_steps.specs.Vocabulary.{Load, Or, Insert, Contains, Answer}
-use Rattle.bloom_steps.specs.Interleavings.{ContainsTell, FindsInserted}
-use Rattle.bloom_steps.specs.Moments.{IsFinished, NoneTurnedOff, moment, turns_off}
+use Rattle.bloom_steps.proofs.Common.{both_ways, chain, content, IsPosition, are_in, place, Load, Or, Insert, Contains, Answer, ContainsTell, FindsInserted, IsFinished, NoneTurnedOff, moment, turns_off}
 use Rattle.bloom_steps.proofs.CourseFacts.Courses.{insert_then_contains, insert_then_contains_answering}
 use Rattle.bloom_steps.proofs.CourseFacts.Finished.{finished}
 use Rattle.bloom_steps.proofs.CourseFacts.Lawful.{lawful-insert_then_contains}

@@ -1,10 +1,7 @@
 -- Which parties of the worked courses run a call, and when.
 use Rattle.std.proofs.Common.{◌≡◌, ◌∷◌, [], zero, suc, ℕ, take, true, false, refl, arith, Bool, ◌∙◌, sym, ltb, if◌then◌else◌, ap, ◌≢◌, ◌≤◌, List}
-use Rattle.std.proofs.lemmas.Bool.{both_ways, and_parts, ltb-true, ne_eqb}
-use Rattle.bloom_steps.specs.Vocabulary.{Record}
-use Rattle.bloom_steps.specs.Courses.{runs, records_of, party_of, last_leaves_running}
+use Rattle.bloom_steps.proofs.Common.{both_ways, and_parts, ltb-true, ne_eqb, Record, runs, records_of, party_of, last_leaves_running, EveryCallEnded, OneAtATime}
 use Rattle.bloom_steps.proofs.StepFacts.Members.{all_pass}
-use Rattle.bloom_steps.specs.Moments.{EveryCallEnded, OneAtATime}
 use Rattle.bloom_steps.proofs.CourseFacts.Courses.{in_turn_answering}
 
 -- a party past all of some records' parties has no record among the first of them
@@ -47,20 +44,13 @@ runner answer m (suc (suc party)) is =
     absurd
     (both_ways (runs (suc (suc party)) (take m (in_turn_answering answer).records))
     (idle-past 2 (suc (suc party)) (in_turn_answering answer).records m refl (omega arith)) is)
-runner answer zero zero is = refl
-runner answer zero (suc zero) is = absurd (both_ways false refl is)
 runner answer (suc zero) zero is = refl
-runner answer (suc zero) (suc zero) is = absurd (both_ways false refl is)
 runner answer (suc (suc zero)) zero is = refl
-runner answer (suc (suc zero)) (suc zero) is = absurd (both_ways false refl is)
 runner answer (suc (suc (suc zero))) zero is = refl
-runner answer (suc (suc (suc zero))) (suc zero) is = absurd (both_ways false refl is)
-runner answer (suc (suc (suc (suc zero)))) zero is = absurd (both_ways false refl is)
 runner answer (suc (suc (suc (suc zero)))) (suc zero) is = refl
-runner answer (suc (suc (suc (suc (suc zero))))) zero is = absurd (both_ways false refl is)
-runner answer (suc (suc (suc (suc (suc zero))))) (suc zero) is = absurd (both_ways false refl is)
 runner answer (suc (suc (suc (suc (suc (suc m)))))) zero is = absurd (both_ways false refl is)
 runner answer (suc (suc (suc (suc (suc (suc m)))))) (suc zero) is = absurd (both_ways false refl is)
+runner answer m party is = absurd (both_ways false refl is)
 
 -- the union and the insert are made one at a time
 pub one-in_turn : (answer : Bool) → OneAtATime (in_turn_answering answer).records

@@ -1,7 +1,6 @@
 -- Which records follow a schedule, and which not.
 use Rattle.std.proofs.Common.{◌∷◌, [], List, ℕ, refl, arith, inl, inr}
-use Rattle.bloom_steps.specs.Vocabulary.{Zero, Insert, Clear, Done, Event, Begin, Go, Began, Did}
-use Rattle.bloom_steps.specs.Courses.{Course, Follows, FollowsFrom, no_event, next_event, records_of}
+use Rattle.bloom_steps.proofs.Common.{Zero, Insert, Clear, Done, Event, Begin, Go, Began, Did, Course, Follows, FollowsFrom, no_event, next_event, records_of}
 
 -- events of which two alone make sense to one party: the beginning of its clear, and its step
 abbrev pub schedule : List Event

@@ -1,20 +1,14 @@
 -- A take between the steps of an insert: it loses nothing that was set, and a clear does.
-use Rattle.std.specs.Prelude.{sum_by}
+use Rattle.bloom_steps.proofs.Common.{sum_by, chain, content, Or, Call, Insert, Running, Done, Answer, Began, Did, CallAfterCall, Course, IsLawful, no_call, records_of, whole_call, TakesLoseNothing, adds_or_takes, bits_gained, bits_new, bits_on, bits_taken, count_below, bits_of, IsScript, Taken}
 use Rattle.std.proofs.Common.{◌≡◌, ◌∷◌, [], List, ℕ, zero, suc, true, false, Some, refl, arith, sym, subst, lit<, slice_get}
-use Rattle.bloom_parts.specs.Chain.{chain}
-use Rattle.bloom_parts.specs.Content.{content}
-use Rattle.bloom_steps.specs.Vocabulary.{Or, Call, Insert, Running, Done, Answer, Began, Did}
 use Rattle.bloom_steps.specs.declared.steps.vocabulary.Step.TheVariants as step
 use Rattle.bloom_steps.specs.declared.steps.vocabulary.Call.TheVariants.{Take}
-use Rattle.bloom_steps.specs.Courses.{CallAfterCall, Course, IsLawful, no_call, records_of, whole_call}
-use Rattle.bloom_steps.specs.Interleavings.{TakesLoseNothing, adds_or_takes, bits_gained, bits_new, bits_on, bits_taken, count_below}
-use Rattle.bloom_steps.specs.Moments.{bits_of}
-use Rattle.bloom_steps.specs.Scripts.{IsScript, Taken}
 use Rattle.bloom_steps.proofs.CourseFacts.Carrying.{carried}
+use Rattle.bloom_steps.proofs.CourseFacts.Finished.{every-call}
 use Rattle.bloom_steps.proofs.CourseFacts.Lawful.{one-word}
 use Rattle.bloom_steps.proofs.CourseFacts.Parties.{none-past}
 use Rattle.bloom_steps.proofs.RunLemmas.Gained.{takes_lose_nothing}
-use Rattle.bloom_steps.proofs.StepFacts.Members.{each-member, took}
+use Rattle.bloom_steps.proofs.StepFacts.Members.{each-member, one-step, took}
 
 -- the four numbers of a course: set at the start, set by steps, taken, left
 record HasCounts (run : Course) (start gained taken left : ℕ) : Type 0 where
@@ -57,13 +51,7 @@ taken = took (step.Take 0) 1 Done ∷ []
 
 -- the one step is a whole take
 taken-script : IsScript 1 2 Take taken
-taken-script = record {
-  count = refl;
-  steps = each-member _ taken (refl, tt);
-  stops = tt;
-  running = each-member _ taken ((λ l. absurd (omega (arith, l))), tt);
-  last = each-member _ taken ((λ l. refl), tt);
-}
+taken-script = one-step 1 2 _ _ refl refl tt refl
 
 -- the calls of each party are call after call
 calls : (party : ℕ) → CallAfterCall 1 2 party (records_of party (between 1).records)
@@ -81,21 +69,6 @@ lawful-between =
     (omega arith, refl, lit< tt, (omega arith, refl, lit< tt, (omega arith, refl, lit< tt, tt)))
     refl refl (one-word 1048576 (lit< tt)) calls
 
--- each call of the course adds or takes
-each-between : (found m party : ℕ) (call : Call)
-    → slice_get (between found).records m ≡ Some (Began party call) → adds_or_takes call ≡ true
-each-between found m party call g =
-    each-member (λ m r. r ≡ Began party call → adds_or_takes call ≡ true) (between found).records (
-      (λ e. let is : Insert 1 ≡ call = cc in subst (λ c. adds_or_takes c ≡ true) is refl),
-      (
-        (λ e. absurd (cc)),
-        (
-          (λ e. let is : Take ≡ call = cc in subst (λ c. adds_or_takes c ≡ true) is refl),
-          ((λ e. absurd (cc)), ((λ e. absurd (cc)), tt)),
-        ),
-      ),
-    ) m (Began party call) g refl
-
 -- the numbers where the take doesn't tell the bit that it cleared: 0 + 2 against 0 + 1
 lost-counts : HasCounts (between 0) 0 2 0 1
 unfolding content bits_on bits_new
@@ -106,7 +79,7 @@ loses_nothing : TakesLoseNothing (between 1) × (TakesLoseNothing (between 0) �
 loses_nothing = (
   takes_lose_nothing 2 (between 1) lawful-between,
   (λ keeps.
-      let even = (keeps (each-between 0)).whole in
+      let even = (keeps (every-call adds_or_takes (between 0).records refl)).whole in
       let c = lost-counts in
       omega (arith, even, c.at_start, c.turned_on, c.found, c.at_end)),
 )

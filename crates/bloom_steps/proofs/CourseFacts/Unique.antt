@@ -1,9 +1,7 @@
 -- What the law on one course says of a schedule.
 use Rattle.std.proofs.Common.{◌≡◌, ◌∷◌, [], List, ℕ, zero, suc, refl, arith, lit<, sym, subst}
-use Rattle.bloom_steps.specs.Vocabulary.{Zero, Clear, Done}
-use Rattle.bloom_steps.specs.Scripts.{IsScript, Taken}
-use Rattle.bloom_steps.specs.Courses.{AtMostOne, CallAfterCall, Course, Follows, IsLawful, no_call, records_of, whole_call}
-use Rattle.bloom_steps.proofs.StepFacts.Members.{each-member, took}
+use Rattle.bloom_steps.proofs.Common.{Zero, Clear, Done, IsScript, Taken, AtMostOne, CallAfterCall, Course, Follows, IsLawful, no_call, records_of, whole_call}
+use Rattle.bloom_steps.proofs.StepFacts.Members.{one-step, took}
 use Rattle.bloom_steps.proofs.CourseFacts.Carrying.{carried}
 use Rattle.bloom_steps.proofs.CourseFacts.Lawful.{one-word}
 use Rattle.bloom_steps.proofs.CourseFacts.Parties.{none-past}
@@ -15,13 +13,7 @@ zeroed = took (Zero 0) 0 Done ∷ []
 
 -- the one step is a whole clear
 zeroed-script : IsScript 1 1 Clear zeroed
-zeroed-script = record {
-  count = refl;
-  steps = each-member _ zeroed (refl, tt);
-  stops = tt;
-  running = each-member _ zeroed ((λ l. absurd (omega (arith, l))), tt);
-  last = each-member _ zeroed ((λ l. refl), tt);
-}
+zeroed-script = one-step 1 1 _ _ refl refl tt refl
 
 -- the calls of each party of a clear of one word
 calls : (party : ℕ) → CallAfterCall 1 1 party (records_of party (cleared (9 ∷ [])).records)

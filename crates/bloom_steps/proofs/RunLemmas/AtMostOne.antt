@@ -1,17 +1,10 @@
 -- At most one course is lawful and follows a schedule.
-use Rattle.bloom_steps.specs.Plans.{plan_of}
 use Rattle.std.proofs.Common.{[], ◌++◌, ◌∙◌, ◌∷◌, ◌≡◌, Bool, List, ap, append_assoc, inl, inr, length, refl, subst, sym, ℕ}
-use Rattle.std.proofs.Math.Seq.{take-append_seam}
-use Rattle.std.proofs.lemmas.Bool.{both_ways}
-use Rattle.bloom_parts.specs.Content.{EqualWordsLaw, content}
-use Rattle.bloom_steps.specs.Vocabulary.{Event, Begin, Go, Record, Did, Other}
-use Rattle.bloom_steps.specs.Scripts.{IsScript, Taken}
-use Rattle.bloom_steps.specs.Steps.{after_records}
-use Rattle.bloom_steps.specs.Courses.{AtMostOne, CallAfterCall, Course, FindsWhatIsThere, Follows, FollowsFrom, IsLawful, Gives, TakesStep, MayFind, next_event, no_event, records_of, runs}
+use Rattle.bloom_steps.proofs.Common.{take-append_seam, both_ways, EqualWordsLaw, content, Event, Begin, Go, Record, Did, Other, IsScript, Taken, after_records, AtMostOne, CallAfterCall, Course, FindsWhatIsThere, Follows, FollowsFrom, IsLawful, Gives, TakesStep, MayFind, next_event, no_event, records_of, runs}
 use Rattle.bloom_steps.proofs.RunLemmas.NextSteps.{GoesAfter, goes_after, newest-same}
 use Rattle.bloom_steps.proofs.RunLemmas.PartyRecords.{records_of-append, records_of-mine}
 use Rattle.bloom_steps.proofs.RunLemmas.UniqueSteps.{end-same, found-same}
-use Rattle.bloom_steps.proofs.StepLemmas.Going.{fits_one, script_next}
+use Rattle.bloom_steps.proofs.StepLemmas.Going.{script_next}
 use Rattle.bloom_steps.proofs.StepLemmas.Members.{member-seam}
 
 -- the next record of a party's call is one
@@ -27,8 +20,7 @@ next-same w k p given A xs t u a b f g x y =
     subst (λ c. IsScript w k c (a.s ++ u ∷ b.rest)) (sym one.0)
     (subst (λ l. IsScript w k b.call (l ++ u ∷ b.rest)) (sym one.1) b.is) in
     let step : t.step ≡ u.step =
-    fits_one w (plan_of a.call) a.s t.step u.step (script_next w k a.call a.s a.rest t a.is)
-    (script_next w k a.call a.s b.rest u is) in
+    script_next w k a.call a.s a.rest t a.is ∙ sym (script_next w k a.call a.s b.rest u is) in
     let found : t.found ≡ u.found =
     found-same A given u.step t.found u.found (subst (λ v. MayFind A v t.found) step f) g
     (λ i e. x i (step ∙ e)) y in

@@ -1,14 +1,8 @@
 -- Each record of an insert, a look-up or a take changes the number of set positions by what it sets
 -- or takes.
 use Rattle.std.proofs.Common.{◌&&◌, ◌+◌, ◌/◌, ◌<◌, ◌∙◌, ◌≡◌, ◌⊎◌, Bool, None, Some, ap, arith, eq-eqb, false, if◌then◌else◌, inl, inr, nat_eq, not, refl, slice_get, subst, sym, true, unwrap_or, ℕ, length}
-use Rattle.std.proofs.lemmas.Bool.{ne_eqb}
-use Rattle.bloom_parts.specs.Content.{bit_is_on}
-use Rattle.bloom_steps.specs.Vocabulary.{End, Record, Did, Step, Load, Or}
+use Rattle.bloom_steps.proofs.Common.{ne_eqb, bit_is_on, End, Record, Did, Step, Load, Or, Course, bits_gained, bits_new, bits_on, bits_taken, count_below, bits_of, moment, step_decides}
 use Rattle.bloom_steps.specs.declared.steps.vocabulary.Step.TheVariants as step
-use Rattle.bloom_steps.specs.Courses.{Course}
-use Rattle.bloom_steps.specs.Interleavings.{bits_gained, bits_new, bits_on, bits_taken, count_below}
-use Rattle.bloom_steps.specs.Moments.{bits_of, moment}
-use Rattle.bloom_steps.specs.Steps.{step_decides}
 use Rattle.bloom_steps.proofs.RunLemmas.Changes.{moment-more}
 use Rattle.bloom_steps.proofs.RunLemmas.Counting.{count_below-gained, count_below-same, count_below-word}
 use Rattle.bloom_steps.proofs.RunLemmas.Scripted.{FindsBits, StepsWithin}

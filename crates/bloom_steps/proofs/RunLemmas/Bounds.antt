@@ -1,53 +1,37 @@
 -- What no step clears stays set, and past the words nothing is ever set.
 use Rattle.bloom_steps.proofs.StepLemmas.Plans.{made, plan_decides, PlanDecides}
 use Rattle.std.proofs.Common.{◌%◌, ◌*◌, ◌-◌, ◌/◌, ◌<◌, ◌^◌, ◌∙◌, ◌≡◌, ◌≤◌, ◌⊎◌, List, None, Some, ap, arith, false, if◌then◌else◌, inl, inr, length, nat_eq, refl, slice_get, subst, sym, true, unwrap_or, ℕ}
-use Rattle.std.proofs.Math.Seq.{take-length}
-use Rattle.std.proofs.lemmas.Bool.{both_ways, false_from_ne_true, ne_eqb}
-use Rattle.bloom_parts.specs.Content.{bit_is_on, content}
-use Rattle.bloom_parts.specs.Places.{place}
-use Rattle.bloom_parts.proofs.PublishedLemmas.{content-past}
-use Rattle.bloom_steps.specs.Plans.{EachPair, EachWord, LooksAt, Plan, TurnsOn, plan_of}
-use Rattle.bloom_steps.specs.Vocabulary.{End, Record, Began, Did, Step}
-use Rattle.bloom_steps.specs.CourseLaws.{BitsTell}
-use Rattle.bloom_steps.specs.Moments.{moment}
-use Rattle.bloom_steps.specs.Scripts.{Taken}
-use Rattle.bloom_steps.specs.Steps.{after_records, record_decides, step_decides}
-use Rattle.bloom_steps.specs.Courses.{Course, IsLawful}
+use Rattle.bloom_steps.proofs.Common.{take-length, both_ways, false_from_ne_true, ne_eqb, bit_is_on, content, place, content-past, EachPair, EachWord, LooksAt, Plan, TurnsOn, plan_of, End, Record, Began, Did, Step, BitsTell, moment, Taken, after_records, record_decides, step_decides, Course, IsLawful}
 use Rattle.bloom_steps.proofs.RunLemmas.Changes.{DecidesOnly, TurnsOff, moment-more, or-decides_only, persists}
 use Rattle.bloom_steps.proofs.RunLemmas.RecordedCalls.{step_held}
-use Rattle.bloom_steps.proofs.RunLemmas.PlacedSteps.{IsPairAt, IsPlacedAt}
+use Rattle.bloom_steps.proofs.RunLemmas.PlacedSteps.{IsPlacedAt}
+use Rattle.bloom_steps.proofs.StepLemmas.Going.{step-pair}
 use Rattle.bloom_steps.proofs.StepLemmas.Members.{some_member}
 
 -- a word within isn't that of a position past
 not_here : (q i w : ℕ) → i < w → w ≤ q / 64 → nat_eq (q / 64) i ≡ false
 not_here q i w below past = ne_eqb (q / 64) i (λ same. absurd (omega (arith, same, below, past)))
 
--- past the words no step of a pair decides anything
-pair-past : (w q : ℕ) (op : ℕ → ℕ → Step) (s : List Taken) (t : Taken)
-    → ((i x : ℕ) → nat_eq (q / 64) i ≡ false → step_decides (op i x) q ≡ None) → w ≤ q / 64
-    → IsPairAt w op s t
-    → step_decides t.step q ≡ None
-pair-past w q op s t off past at = elim at.either [
-  | inl load ↦ ap (λ x. step_decides x q) load
-  | inr u ↦ ap (λ x. step_decides x q) u.3 ∙ off at.i u.0.found (not_here q at.i w at.below past)
-]
-
 -- past the words no step of a plan clears anything
-past_step : (w k q : ℕ) (plan : Plan) (s : List Taken) (j : ℕ) (t : Taken) → PlanDecides plan
-    → w ≤ q / 64 → IsPlacedAt w k plan s j t
-    → DecidesOnly (Some true) q t.step
-past_step w k q (TurnsOn h) s j t does past at =
-    subst (DecidesOnly (Some true) q) (sym at.1)
+past_step : (w k q : ℕ) (plan : Plan) (j : ℕ) (step : Step) → PlanDecides plan → w ≤ q / 64
+    → IsPlacedAt w k plan j step → DecidesOnly (Some true) q step
+past_step w k q (TurnsOn h) j step does past at =
+    subst (DecidesOnly (Some true) q) (sym at.2)
     (or-decides_only (place (64 * w) h j / 64) (2 ^ (place (64 * w) h j % 64)) q)
-past_step w k q (LooksAt h) s j t does past at = inl (ap (λ x. step_decides x q) at)
-past_step w k q (EachWord op) s j t does past at =
+past_step w k q (LooksAt h) j step does past at = inl (ap (λ x. step_decides x q) at.2)
+past_step w k q (EachWord op) j step does past at =
     inl
-    (ap (λ x. step_decides x q) at.1 ∙ does j q
+    (ap (λ x. step_decides x q) at.2 ∙ does j q
     ∙ ap (λ b. if b then Some false else None) (not_here q j w at.0 past))
-past_step w k q (EachPair op on) s j t does past at =
+past_step w k q (EachPair op on) j step does past (below, found, is) =
     inl
-    (pair-past w q op s t
-    (λ i x off. does.0 i x q ∙ ap (λ b. if b then made on (bit_is_on x q) else None) off) past at)
+    (elim (step-pair w op on j found) [
+      | inl load ↦ ap (λ x. step_decides x q) (is ∙ load)
+      | inr write ↦
+          ap (λ x. step_decides x q) (is ∙ write) ∙ does.0 (j / 2) found q
+          ∙ ap (λ b. if b then made on (bit_is_on found q) else None)
+          (not_here q (j / 2) w (omega (arith, below)) past)
+    ])
 
 -- a record that doesn't decide to clear a position doesn't clear it
 pub not_off : (run : Course) (m q : ℕ) (r : Record) → slice_get run.records m ≡ Some r
@@ -103,8 +87,6 @@ module _ (k : ℕ) (run : Course) (lawful : IsLawful k run) where
       let all : NoneMakesOff run q =
       λ n p step found e g.
       let h = step_held k run lawful n p step found e g in
-      subst (DecidesOnly (Some true) q) h.same_step
-      (past_step (length run.start) k q (plan_of h.of.call) h.of.s h.j h.t
-      (plan_decides h.of.call) past h.at) in
+      past_step (length run.start) k q (plan_of h.call) h.j step (plan_decides h.call) past h.at in
       both_ways (content run.words q) (content-past run.words q (omega arith))
       (stays_to_end run lawful.bits q all m l on))

@@ -1,10 +1,6 @@
 -- The records of a call among those of its party.
 use Rattle.std.proofs.Common.{[], ◌++◌, ◌<◌, ◌∙◌, ◌∷◌, ◌≡◌, ◌≢◌, ◌⊎◌, List, Some, ap, arith, inl, inr, refl, slice_get, subst, suc, sym, take, zero, ℕ}
-use Rattle.std.proofs.lemmas.List.{append-nil}
-use Rattle.std.proofs.lemmas.Option.{none-some, same_Some}
-use Rattle.bloom_steps.specs.Vocabulary.{Call, End, Running, Record, Began, Did, Step}
-use Rattle.bloom_steps.specs.Scripts.{IsBeginning, IsScript, Taken}
-use Rattle.bloom_steps.specs.Courses.{CallAfterCall, begun_call, did, no_call, party_of, records_of, whole_call}
+use Rattle.bloom_steps.proofs.Common.{append-nil, none-some, same_Some, Call, End, Running, Record, Began, Did, Step, IsBeginning, IsScript, Taken, CallAfterCall, begun_call, did, no_call, party_of, records_of, whole_call}
 use Rattle.bloom_steps.proofs.RunLemmas.RunningCalls.{OneEnd, one_end-later}
 use Rattle.bloom_steps.proofs.RunLemmas.PartyRecords.{mine_or_not, records_of-mine, records_of-none, records_of-other}
 

@@ -1,19 +1,7 @@
 -- The answer of a whole call, alone, is its command's reply in the set before.
-use Rattle.bloom_steps.specs.Plans.{TurnsOn}
-use Rattle.bloom_steps.specs.Plans.{TurnsOn}
+use Rattle.bloom_steps.proofs.Common.{TurnsOn, both_ways, cases_lt, false_from_ne_true, true_from_ne_false, slice_get_within, bit_is_on, are_in, place, End, Call, Contains, Insert, Did, AllFoundOn, IsScript, Taken, answer_of, answer_of_end, Any, IsLastEnd, command_of, after_records, step_decides, MayFind, did, are_in-off}
 use Rattle.std.proofs.Common.{◌*◌, ◌+◌, ◌-◌, ◌∙◌, ◌≡◌, ◌≤◌, Bool, List, None, Some, add-one, ap, arith, false, inl, inr, length, refl, slice_get, subst, suc, sym, take, true, unwrap_or, zero, ℕ, ◌<◌}
-use Rattle.std.proofs.lemmas.Bool.{both_ways, cases_lt, false_from_ne_true, true_from_ne_false}
-use Rattle.std.proofs.lemmas.Option.{slice_get_within}
-use Rattle.bloom_parts.specs.Content.{bit_is_on}
-use Rattle.bloom_parts.specs.Places.{are_in, place}
-use Rattle.bloom_steps.specs.Vocabulary.{End, Call, Clear, Contains, Insert, Intersect, Union, Done, Did}
-use Rattle.bloom_steps.specs.declared.steps.vocabulary.Call.TheVariants.{Take}
 use Rattle.bloom_parts.specs.Operations.{reply}
-use Rattle.bloom_steps.specs.Scripts.{AllFoundOn, IsScript, Taken, answer_of, answer_of_end, Any, IsLastEnd}
-use Rattle.bloom_steps.specs.Sequences.{command_of}
-use Rattle.bloom_steps.specs.Steps.{after_records, step_decides}
-use Rattle.bloom_steps.specs.Courses.{MayFind, did}
-use Rattle.bloom_parts.proofs.PublishedLemmas.{are_in-off}
 use Rattle.bloom_steps.proofs.RunLemmas.CallSets.{contains-all, insert-all}
 use Rattle.bloom_steps.proofs.RunLemmas.Changes.{or_at-decides}
 use Rattle.bloom_steps.proofs.RunLemmas.CallSteps.{Fits, all_decide-take, steps-none, steps-on}
@@ -21,17 +9,7 @@ use Rattle.bloom_steps.proofs.RunLemmas.PartyRecords.{did-get, did-more, did-tak
 use Rattle.bloom_steps.proofs.RunLemmas.Positions.{are_in-all, both_alike}
 use Rattle.bloom_steps.proofs.StepLemmas.Deciding.{records-more}
 use Rattle.bloom_steps.proofs.StepLemmas.Members.{some_member, take-more}
-use Rattle.bloom_steps.proofs.StepLemmas.Whole.{answer_of-last, script_some}
-
--- a call that gives no answer has none
-done-answer : (s : List Taken) → 1 ≤ length s
-    → ((i : ℕ) (t : Taken) → slice_get s i ≡ Some t → i + 1 ≡ length s → t.ended ≡ Done)
-    → answer_of s ≡ None
-done-answer s some all =
-    let t = some_member s (length s - 1) (omega arith) in
-    let closes : (length s - 1) + 1 ≡ length s = omega arith in
-    answer_of-last s (length s - 1) t.0 t.1 closes
-    ∙ ap answer_of_end (all (length s - 1) t.0 t.1 closes)
+use Rattle.bloom_steps.proofs.StepLemmas.Whole.{last-of, silent}
 
 -- a script that a party makes alone
 module _ (w k p : ℕ) (s : List Taken) (A : ℕ → Bool) (fits : Fits w A (did p s)) where
@@ -115,12 +93,9 @@ module _ (w k p : ℕ) (s : List Taken) (A : ℕ → Bool) (fits : Fits w A (did
   insert-answer : (h : ℕ) → 1 ≤ k → IsScript w k (Insert h) s
       → answer_of s ≡ Some (are_in (64 * w) k h A)
   insert-answer h some_hashes is =
-      let count = is.count in
-      let m = length s - 1 in
-      let closes : m + 1 ≡ length s = omega arith in
-      let last = some_member s m (omega arith) in
-      answer_of-last s m last.0 last.1 closes
-      ∙ by_end last.0.ended (is.last m last.0 last.1 closes)
+      let last = last-of s (omega (arith, some_hashes, is.count)) in
+      last.answers
+      ∙ by_end last.step.ended (is.last last.index last.step last.stands last.is_last)
     where
       found_on : (says : Bool)
           → (Any s (λ i t. bit_is_on t.found (place (64 * w) h i) ≡ false) → says ≡ false)
@@ -164,12 +139,12 @@ module _ (w k p : ℕ) (s : List Taken) (A : ℕ → Bool) (fits : Fits w A (did
       → answer_of s ≡ Some (are_in (64 * w) k h A)
   contains-answer h is =
       let count = is.count in
-      let m = length s - 1 in
-      let closes : m + 1 ≡ length s = omega arith in
-      let last = some_member s m (omega arith) in
-      answer_of-last s m last.0 last.1 closes
-      ∙ ap answer_of_end (is.last m last.0 last.1 closes m last.0 last.1 closes)
-      ∙ ap Some (by_bit m last.0 last.1 closes (omega arith))
+      let last = last-of s count.0 in
+      let m = last.index in
+      let t = last.step in
+      let closes = last.is_last in
+      last.answers ∙ ap answer_of_end (is.last m t last.stands closes m t last.stands closes)
+      ∙ ap Some (by_bit m t last.stands closes (omega arith))
     where
       by_bit : (m : ℕ) (last : Taken) → slice_get s m ≡ Some last → m + 1 ≡ length s → m < k
           → bit_is_on last.found (place (64 * w) h m) ≡ are_in (64 * w) k h A
@@ -179,15 +154,8 @@ module _ (w k p : ℕ) (s : List Taken) (A : ℕ → Bool) (fits : Fits w A (did
           (λ off. are_in-off (64 * w) k h A m below (sym (contains_found h m last is g) ∙ off))
 
   -- the answer of a whole call
-  pub call-answer : (call : Call) (other : ℕ → Bool) → 1 ≤ w → 1 ≤ k → IsScript w k call s
+  pub call-answer : (call : Call) (other : ℕ → Bool) → 1 ≤ k → IsScript w k call s
       → answer_of s ≡ reply (64 * w) k A (command_of call other)
-  call-answer (Insert h) other some_words some_hashes is = insert-answer h some_hashes is
-  call-answer (Contains h) other some_words some_hashes is = contains-answer h is
-  call-answer Clear other some_words some_hashes is =
-      done-answer s (script_some w k Clear s some_words some_hashes is) is.last
-  call-answer Union other some_words some_hashes is =
-      done-answer s (script_some w k Union s some_words some_hashes is) is.last
-  call-answer Intersect other some_words some_hashes is =
-      done-answer s (script_some w k Intersect s some_words some_hashes is) is.last
-  call-answer Take other some_words some_hashes is =
-      done-answer s (script_some w k Take s some_words some_hashes is) is.last
+  call-answer (Insert h) other some_hashes is = insert-answer h some_hashes is
+  call-answer (Contains h) other some_hashes is = contains-answer h is
+  call-answer call other some_hashes is = silent s is.last

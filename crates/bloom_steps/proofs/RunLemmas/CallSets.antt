@@ -1,19 +1,9 @@
 -- The set after a whole call, alone, is what its command makes of that before.
-use Rattle.bloom_steps.specs.Vocabulary.{Step, Call, Clear, Contains, Insert, Intersect, Union, And, Or, Zero}
+use Rattle.bloom_steps.proofs.Common.{Step, Call, Clear, Contains, Insert, Intersect, Union, And, Or, Zero, take-length, both_ways, cases_lt, slice_get_within, content, place, positions, position-from, position-to, AreStepsOf, IsScript, Taken, Each, EachPair, command_of, other_words, after_records, or_at, step_decides, did}
 use Rattle.std.proofs.Common.{◌*◌, ◌/◌, ◌∙◌, ◌≡◌, ◌≤◌, ◌⊎◌, Bool, List, None, Some, ap, arith, eq-eqb, false, if◌then◌else◌, inl, inr, length, nat_eq, refl, sym, true, unwrap_or, ℕ}
-use Rattle.std.proofs.Math.Seq.{take-length}
-use Rattle.std.proofs.lemmas.Bool.{both_ways, cases_lt}
-use Rattle.std.proofs.lemmas.Option.{slice_get_within}
-use Rattle.bloom_parts.specs.Content.{content}
-use Rattle.bloom_parts.specs.Places.{place, positions}
 use Rattle.bloom_steps.specs.declared.steps.vocabulary.Call.TheVariants.{Take}
 use Rattle.bloom_steps.specs.declared.steps.vocabulary.Step.TheVariants as step
 use Rattle.bloom_parts.specs.Operations.{decides}
-use Rattle.bloom_parts.proofs.PublishedLemmas.{position-from, position-to}
-use Rattle.bloom_steps.specs.Scripts.{IsScript, Taken, Each, ArePairs}
-use Rattle.bloom_steps.specs.Sequences.{command_of, other_words}
-use Rattle.bloom_steps.specs.Steps.{after_records, or_at, step_decides}
-use Rattle.bloom_steps.specs.Courses.{did}
 use Rattle.bloom_steps.proofs.RunLemmas.Changes.{or_at-decides}
 use Rattle.bloom_steps.proofs.RunLemmas.CallSteps.{AllDecide, Fits, steps-none, steps-some}
 use Rattle.bloom_steps.proofs.RunLemmas.PairSteps.{other-past, pairs-steps}
@@ -99,8 +89,8 @@ module _ (w k p : ℕ) (s : List Taken) (A : ℕ → Bool) where
           ]
 
   -- pairs make of each position what the other filter's bit says
-  pairs-make : (op : ℕ → ℕ → Step) (on : Bool) → TurnsBy op on × ReadsNoOther op → ArePairs op s
-      → length s ≡ 2 * w → (q : ℕ) → Fits w A (did p s)
+  pairs-make : (op : ℕ → ℕ → Step) (on : Bool) → TurnsBy op on × ReadsNoOther op
+      → AreStepsOf w (EachPair op on) s → length s ≡ 2 * w → (q : ℕ) → Fits w A (did p s)
       → after_records A (did p s) q ≡ unwrap_or (made on (content (other_words s) q)) (A q)
   pairs-make op on does steps count q f = elim (cases_lt (q / 64) w) [
     | inl inside ↦ pairs-steps op on does.0 does.1 w s steps count p A q inside

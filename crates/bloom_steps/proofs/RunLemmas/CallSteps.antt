@@ -1,15 +1,8 @@
 -- What the steps of one call make of a set, alone.
 use Rattle.std.proofs.Common.{[], ◌++◌, ◌+◌, ◌/◌, ◌∙◌, ◌∷◌, ◌≡◌, ◌≤◌, ◌⊎◌, Bool, List, None, Option, Some, ap, arith, false, inl, inr, length, length-append, map, refl, slice_get, subst, suc, sym, take, true, unwrap_or, zero, ℕ}
-use Rattle.std.proofs.Math.Seq.{take-append-add}
-use Rattle.std.proofs.lemmas.List.{take-append-le}
-use Rattle.std.proofs.lemmas.Option.{none-some, same_Some, slice_get_within}
+use Rattle.bloom_steps.proofs.Common.{take-append-add, take-append-le, none-some, same_Some, slice_get_within, last_decision, Record, Step, And, Load, Or, Other, Zero, Each, Taken, after_records, record_decides, step_decides, word_index, FindsWhatIsThere, IsWordOf, MayFind, did}
 use Rattle.std.specs.Option.{option_or}
-use Rattle.bloom_parts.specs.Deciders.{last_decision}
-use Rattle.bloom_steps.specs.Vocabulary.{Record, Step, And, Load, Or, Other, Zero}
 use Rattle.bloom_steps.specs.declared.steps.vocabulary.Step.TheVariants.{Take}
-use Rattle.bloom_steps.specs.Scripts.{Each, Taken}
-use Rattle.bloom_steps.specs.Steps.{after_records, record_decides, step_decides}
-use Rattle.bloom_steps.specs.Courses.{FindsWhatIsThere, IsWordOf, MayFind, did}
 use Rattle.bloom_steps.proofs.RunLemmas.Changes.{DecidesOnly}
 use Rattle.bloom_steps.proofs.StepLemmas.Deciding.{records-append}
 use Rattle.bloom_steps.proofs.StepLemmas.Members.{member-back, member-front, member_of_take}
@@ -22,12 +15,9 @@ is_word-same A B i found same f = record { fits = f.fits; bits = λ p at. f.bits
 -- what may be found in a set looks at its bits alone
 may_find-same : (A B : ℕ → Bool) (step : Step) (found : ℕ) → ((q : ℕ) → A q ≡ B q)
     → MayFind A step found → MayFind B step found
-may_find-same A B (Load i) found same f = is_word-same A B i found same f
-may_find-same A B (Or i m) found same f = is_word-same A B i found same f
-may_find-same A B (And i m) found same f = is_word-same A B i found same f
 may_find-same A B (Zero i) found same f = f
 may_find-same A B (Other i) found same f = f
-may_find-same A B (Take i) found same f = is_word-same A B i found same f
+may_find-same A B step found same f = is_word-same A B (word_index step) found same f
 
 -- records fit a set of w words: they find what is there, and past the words nothing is set
 pub record Fits (w : ℕ) (A : ℕ → Bool) (rs : List Record) : Type 0 where

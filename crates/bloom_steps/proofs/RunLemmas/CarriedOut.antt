@@ -1,17 +1,7 @@
 -- Records that were carried out on words, one after the other: what each step found, and did.
 use Rattle.std.proofs.Common.{[], ◌/◌, ◌<◌, ◌∙◌, ◌∷◌, ◌≡◌, List, Some, ap, length, map, refl, slice_get, slice_index, subst, suc, sym, take, unwrap_or, zero, ℕ}
-use Rattle.std.proofs.lemmas.Option.{none-some, same_Some}
-use Rattle.bloom_parts.specs.Content.{bit_is_on, content}
-use Rattle.bloom_parts.specs.Deciders.{decides_nothing}
-use Rattle.bloom_steps.specs.Vocabulary.{End, Record, Began, Did, Step, And, Load, Or, Other, Zero}
+use Rattle.bloom_steps.proofs.Common.{none-some, same_Some, bit_is_on, content, decides_nothing, End, Record, Began, Did, Step, And, Load, Or, Other, Zero, CarriedOut, IsCourseOf, CourseTells, Course, found_in, words_after_step, moment, Taken, after_records, record_decides, step_decides, word_index}
 use Rattle.bloom_steps.specs.declared.steps.vocabulary.Step.TheVariants.{Take}
-use Rattle.bloom_steps.specs.Carried.{CarriedOut, IsCourseOf}
-use Rattle.bloom_steps.specs.CourseLaws.{CourseTells}
-use Rattle.bloom_steps.specs.Courses.{Course}
-use Rattle.bloom_steps.specs.Memories.{found_in, words_after_step}
-use Rattle.bloom_steps.specs.Moments.{moment}
-use Rattle.bloom_steps.specs.Scripts.{Taken}
-use Rattle.bloom_steps.specs.Steps.{after_records, record_decides, step_decides, word_index}
 use Rattle.bloom_steps.proofs.RunLemmas.KindEnds.{kind_tells}
 use Rattle.bloom_steps.proofs.RunLemmas.Kinds.{Kind}
 use Rattle.bloom_steps.proofs.RunLemmas.PartyRecords.{did_of-same}
@@ -81,12 +71,9 @@ carried-finds run made m party = go
     go : (step : Step) (found : ℕ) (ended : End)
         → slice_get run.records m ≡ Some (Did party step found ended)
         → FoundBits (moment run m) step found
-    go (Load i) found ended at = bits (Load i) found ended at (λ ws given. refl)
-    go (Or i mask) found ended at = bits (Or i mask) found ended at (λ ws given. refl)
-    go (And i mask) found ended at = bits (And i mask) found ended at (λ ws given. refl)
     go (Zero i) found ended at = tt
     go (Other i) found ended at = tt
-    go (Take i) found ended at = bits (Take i) found ended at (λ ws given. refl)
+    go step found ended at = bits step found ended at (λ ws given. refl)
 
 -- a step that was carried out is on one of the words
 carried-within : (words : List ℕ) (rs : List Record) (after : List ℕ) → CarriedOut words rs after
@@ -117,12 +104,9 @@ carried-steps run made m party = go
     go : (step : Step) (found : ℕ) (ended : End)
         → slice_get run.records m ≡ Some (Did party step found ended)
         → IsWithin (length run.start) step
-    go (Load i) found ended at = tt
     go (Or i mask) found ended at = within (Or i mask) found ended at
-    go (And i mask) found ended at = tt
-    go (Zero i) found ended at = tt
-    go (Other i) found ended at = tt
     go (Take i) found ended at = within (Take i) found ended at
+    go step found ended at = tt
 
 -- a course of a kind gives what each kind gives
 pub course_tells : (kind : Kind) (words : ℕ) (run : Course) → IsCourseOf words kind.Script run

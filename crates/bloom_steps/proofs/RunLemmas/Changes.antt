@@ -1,14 +1,7 @@
 -- What a record changes, and what stays.
-use Rattle.bloom_steps.specs.Vocabulary.{Answer, Record, Did, Step, Or}
+use Rattle.bloom_steps.proofs.Common.{Answer, Record, Did, Step, Or, and_from, and_parts, both_ways, eqb-true, not-true, eqb_tells, bit_is_on, content, moment, turns_off, turns_on, Taken, after_records, or_at, record_decides, step_decides, Course, IsLawful}
 use Rattle.std.proofs.Common.{◌%◌, ◌&&◌, ◌+◌, ◌/◌, ◌<◌, ◌^◌, ◌∙◌, ◌≡◌, ◌≢◌, ◌≤◌, ◌⊎◌, Bool, None, Option, Some, ap, arith, eq-eqb, false, if◌then◌else◌, inl, inr, nat_eq, not, refl, slice_get, suc, sym, take, true, unwrap_or, zero, ℕ}
-use Rattle.std.proofs.lemmas.Bool.{and_from, and_parts, both_ways, eqb-true}
-use Rattle.std.proofs.lemmas.Bool.Decides.{eqb_tells}
 use Rattle.std.proofs.lemmas.Nat.Bits.{bit_at-pow_other, bit_at-pow_same}
-use Rattle.bloom_parts.specs.Content.{bit_is_on, content}
-use Rattle.bloom_steps.specs.Moments.{moment, turns_off, turns_on}
-use Rattle.bloom_steps.specs.Scripts.{Taken}
-use Rattle.bloom_steps.specs.Steps.{after_records, or_at, record_decides, step_decides}
-use Rattle.bloom_steps.specs.Courses.{Course, IsLawful}
 use Rattle.bloom_steps.proofs.StepLemmas.Deciding.{records-more}
 use Rattle.bloom_steps.proofs.StepLemmas.Members.{take-more}
 
@@ -86,11 +79,7 @@ module _ (run : Course) where
       → (moment run m p ≡ false) × (moment run (m + 1) p ≡ true)
   turned_on m p on =
       let parts = and_parts (not (moment run m p)) (moment run (m + 1) p) on in
-      (was (moment run m p) parts.0, parts.1)
-    where
-      was : (b : Bool) → not b ≡ true → b ≡ false
-      was true e = absurd (both_ways false refl e)
-      was false e = refl
+      (not-true (moment run m p) parts.0, parts.1)
 
   -- a position that was clear before a record and is set after was set by it
   pub turning_on : (m p : ℕ) → moment run m p ≡ false → moment run (m + 1) p ≡ true

@@ -1,16 +1,9 @@
 -- Whole calls, one after the other, act as the list of their commands.
 use Rattle.std.proofs.Common.{[], ◌*◌, ◌∙◌, ◌∷◌, ◌≡◌, ◌≤◌, Bool, List, None, Option, Some, ap, option_map, length, map, refl, slice_get, subst, suc, sym, take, unwrap_or, zero, ℕ}
-use Rattle.std.proofs.lemmas.Option.{none-some, same_Some}
-use Rattle.bloom_parts.specs.Content.{content}
-use Rattle.bloom_steps.specs.Vocabulary.{Call, Record, Began}
+use Rattle.bloom_steps.proofs.Common.{none-some, same_Some, content, Call, Record, Began, are_in, answer_of, ActsAs, ActsAsCommands, Cut, MadeCall, command_of, commands_of, cut, other_words, after_records, Course, IsLawful, call_records, did}
 use Rattle.bloom_parts.specs.Operations.{asked_by}
-use Rattle.bloom_parts.specs.Places.{are_in}
 use Rattle.bloom_parts.specs.Operations.{Operation, decides, state_after}
 use Rattle.bloom_parts.specs.Operations.{reply}
-use Rattle.bloom_steps.specs.Scripts.{answer_of}
-use Rattle.bloom_steps.specs.Sequences.{ActsAs, ActsAsCommands, Cut, MadeCall, command_of, commands_of, cut, other_words}
-use Rattle.bloom_steps.specs.Steps.{after_records}
-use Rattle.bloom_steps.specs.Courses.{Course, IsLawful, call_records, did}
 use Rattle.bloom_steps.proofs.RunLemmas.CallSets.{call-steps}
 use Rattle.bloom_steps.proofs.RunLemmas.CallReplies.{call-answer}
 use Rattle.bloom_steps.proofs.RunLemmas.Bounds.{moment-past}
@@ -37,18 +30,17 @@ record Acts (w k : ℕ) (A : ℕ → Bool) (rs : List Record) (made : List MadeC
       (command_of m.call (content (other_words m.taken)))
 
 -- whole calls, one after the other, act as their commands
-acts : (w k : ℕ) (A : ℕ → Bool) (rs : List Record) (made : List MadeCall) → 1 ≤ w → 1 ≤ k
-    → OneByOne w k rs made → Fits w A rs
-    → Acts w k A rs made
-acts w k A _ _ some_words some_hashes no_more f =
+acts : (w k : ℕ) (A : ℕ → Bool) (rs : List Record) (made : List MadeCall) → 1 ≤ k
+    → OneByOne w k rs made → Fits w A rs → Acts w k A rs made
+acts w k A _ _ some_hashes no_more f =
     record { set = λ q. refl; answers = λ i m g. absurd (none-some m g) }
-acts w k A _ _ some_words some_hashes (next_call p call s later made is more) f =
+acts w k A _ _ some_hashes (next_call p call s later made is more) f =
     let n = 64 * w in
     let whole = call_records p call s in
     let B = after_records A whole in
     let C = after_records A (Began p call ∷ []) in
     let its = fits-back w A (Began p call ∷ []) (did p s) (fits-front w A whole later f) in
-    let rest = acts w k B later made some_words some_hashes more (fits-back w A whole later f) in
+    let rest = acts w k B later made some_hashes more (fits-back w A whole later f) in
     let other = content (other_words s) in
     let d = decides n k (command_of call other) in
     let D = map (decides n k) (commands_of made) in
@@ -64,7 +56,7 @@ acts w k A _ _ some_words some_hashes (next_call p call s later made is more) f 
     ≡ reply n k
     (state_after n k A (commands_of (take i (record { call = call; taken = s } ∷ made))))
     (command_of m.call (content (other_words m.taken))) =
-    answers B (call-answer w k p s C its call other some_words some_hashes is) next rest in
+    answers B (call-answer w k p s C its call other some_hashes is) next rest in
     record {
       set = λ q. records-append A whole later q ∙ rest.set q
           ∙ next (commands_of made) q;
@@ -105,7 +97,7 @@ acts_as_commands k run lawful some_words some_hashes one ended =
     let made = one_by_one w k some_words some_hashes run.records lawful.calls one ended in
     let fits : Fits w (content run.start) run.records =
     record { finds = lawful.finds; within = moment-past k run lawful } in
-    let a = acts w k (content run.start) run.records made.0 some_words some_hashes made.1 fits in
+    let a = acts w k (content run.start) run.records made.0 some_hashes made.1 fits in
     let same : made.0 ≡ (cut run.records).calls =
     sym (ap (λ (c : Cut). c.calls) (cut-calls w k run.records made.0 made.1)) in
     subst (ActsAs k run) same (record { bits = λ p. lawful.bits p ∙ a.set p; answers = a.answers })

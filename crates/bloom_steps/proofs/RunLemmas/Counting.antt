@@ -1,9 +1,6 @@
 -- How many numbers below a bound pass a test.
 use Rattle.std.proofs.Common.{◌%◌, ◌&&◌, ◌*◌, ◌+◌, ◌-◌, ◌/◌, ◌<◌, ◌∙◌, ◌≡◌, ◌≢◌, ◌≤◌, ◌⊎◌, Bool, ap, arith, false, if◌then◌else◌, inl, inr, nat_eq, not, refl, suc, sym, true, zero, ℕ}
-use Rattle.std.proofs.lemmas.Bool.{both_ways}
-use Rattle.std.specs.Int.{bit_at}
-use Rattle.bloom_parts.specs.Content.{bit_is_on}
-use Rattle.bloom_steps.specs.Interleavings.{bits_new, bits_on, count_below}
+use Rattle.bloom_steps.proofs.Common.{both_ways, bit_at, bit_is_on, bits_new, bits_on, count_below}
 
 -- tests that agree below a bound pass as many
 pub count_below-same : (n : ℕ) (f g : ℕ → Bool) → ((i : ℕ) → i < n → f i ≡ g i)

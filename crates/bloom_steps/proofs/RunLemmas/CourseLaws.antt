@@ -1,7 +1,5 @@
 -- What every lawful course gives.
-use Rattle.std.specs.Prelude.{ℕ, ◌≤◌, length}
-use Rattle.bloom_steps.specs.CourseLaws.{LawfulTells}
-use Rattle.bloom_steps.specs.Courses.{Course, IsLawful}
+use Rattle.bloom_steps.proofs.Common.{ℕ, ◌≤◌, length, LawfulTells, Course, IsLawful}
 use Rattle.bloom_steps.proofs.RunLemmas.Commands.{acts_as_commands}
 use Rattle.bloom_steps.proofs.RunLemmas.Gained.{counts_gains, takes_lose_nothing}
 use Rattle.bloom_steps.proofs.RunLemmas.Grows.{ends_with_all}

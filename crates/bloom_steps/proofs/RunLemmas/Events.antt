@@ -1,12 +1,6 @@
 -- What one event adds to the records of a run.
 use Rattle.std.proofs.Common.{[], ◌++◌, ◌<◌, ◌∙◌, ◌∷◌, ◌≡◌, List, None, Option, ap, false, inl, inr, length, refl, slice_index_or, sym, true, ℕ}
-use Rattle.std.proofs.lemmas.List.{append-nil}
-use Rattle.bloom_steps.specs.declared.steps.machine.Machine.{Machine}
-use Rattle.bloom_steps.specs.declared.steps.runner.World.{World}
-use Rattle.bloom_steps.specs.Vocabulary.{Call, End, Event, Begin, Go, Record, Began, Did, Step}
-use Rattle.bloom_steps.specs.Courses.{Gives, runs}
-use Rattle.bloom_steps.specs.Memories.{found_in}
-use Rattle.bloom_steps.specs.Worlds.{RecordsGrow, IsWorldOf, slot_runs}
+use Rattle.bloom_steps.proofs.Common.{append-nil, Machine, World, Call, End, Event, Begin, Go, Record, Began, Did, Step, Gives, runs, found_in, RecordsGrow, IsWorldOf, slot_runs}
 use Rattle.bloom_steps.proofs.RunLemmas.Worlds.{runs-slot}
 
 -- records grow by nothing

@@ -1,12 +1,6 @@
 -- Events, one after the other, and what they add.
-use Rattle.bloom_steps.specs.declared.steps.runner.World.{World}
+use Rattle.bloom_steps.proofs.Common.{World, append-nil, slice_get-get_or, slice_index_or, Event, Record, FollowsFrom, Gives, next_event, no_event, RecordsGrow, IsWorldOf, Happens}
 use Rattle.std.proofs.Common.{[], ◌++◌, ◌+◌, ◌<◌, ◌∷◌, ◌≡◌, ◌≤◌, List, append_assoc, arith, length, subst, sym, take, vec_capacity, vec_len, ℕ, ◌∙◌}
-use Rattle.std.proofs.lemmas.List.{append-nil}
-use Rattle.std.proofs.lemmas.Option.{slice_get-get_or}
-use Rattle.std.specs.Prelude.{slice_index_or}
-use Rattle.bloom_steps.specs.Vocabulary.{Event, Record}
-use Rattle.bloom_steps.specs.Courses.{FollowsFrom, Gives, next_event, no_event}
-use Rattle.bloom_steps.specs.Worlds.{RecordsGrow, IsWorldOf, Happens}
 use Rattle.bloom_steps.proofs.StepLemmas.Members.{take-more}
 
 -- one event more

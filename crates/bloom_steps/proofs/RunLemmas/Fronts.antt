@@ -1,12 +1,6 @@
 -- While calls are made one at a time, a whole call stands in front of the records.
 use Rattle.std.proofs.Common.{[], ◌++◌, ◌+◌, ◌∙◌, ◌∷◌, ◌≡◌, ◌≢◌, ◌≤◌, List, ap, arith, false, inl, inr, length, refl, subst, sym, take, true, ℕ}
-use Rattle.std.proofs.Math.Seq.{take-append-add}
-use Rattle.std.proofs.lemmas.Bool.{both_ways, false_from_ne_true}
-use Rattle.std.proofs.lemmas.Bool.Decides.{eqb_tells}
-use Rattle.bloom_steps.specs.Vocabulary.{Call, Record, Began, Did}
-use Rattle.bloom_steps.specs.Moments.{EveryCallEnded, OneAtATime}
-use Rattle.bloom_steps.specs.Scripts.{IsScript, Taken}
-use Rattle.bloom_steps.specs.Courses.{CallAfterCall, begun_call, call_records, did, last_leaves_running, leaves_running, party_of, records_of, runs, whole_call}
+use Rattle.bloom_steps.proofs.Common.{take-append-add, both_ways, false_from_ne_true, eqb_tells, Call, Record, Began, Did, EveryCallEnded, OneAtATime, IsScript, Taken, CallAfterCall, begun_call, call_records, did, last_leaves_running, leaves_running, party_of, records_of, runs, whole_call}
 use Rattle.bloom_steps.proofs.RunLemmas.RunningCalls.{OneEnd, newest-call, one_end-later, one_end-script, runs_after, still_runs-beginning}
 use Rattle.bloom_steps.proofs.RunLemmas.PartyRecords.{mine_or_not, records_of-mine, records_of-none, records_of-other}
 use Rattle.bloom_steps.proofs.StepLemmas.Whole.{script_some}

@@ -1,17 +1,8 @@
 -- Growing runs of calls of any kind: where each step is one of an insert, a look-up or a union, the
 -- end is the start, the inserts, and what was found in the other filter.
 use Rattle.std.proofs.Common.{◌+◌, ◌/◌, ◌∙◌, ◌≡◌, ◌↔◌, ◌⊎◌, List, Some, ap, arith, false, inl, inr, refl, slice_get, subst, sym, true, ℕ}
-use Rattle.std.proofs.lemmas.Bool.{both_ways}
-use Rattle.std.proofs.lemmas.Option.{none-some, slice_get_within}
-use Rattle.bloom_parts.specs.Content.{content}
-use Rattle.bloom_steps.specs.Vocabulary.{Call, Clear, Contains, Insert, Intersect, Union, Record, Began, Did, Other}
+use Rattle.bloom_steps.proofs.Common.{both_ways, none-some, slice_get_within, content, Call, Clear, Contains, Insert, Intersect, Union, Record, Began, Did, Other, Course, IsFoundInOther, BitsTell, plan_of, turns_none_off, Taken, record_decides, step_decides}
 use Rattle.bloom_steps.specs.declared.steps.vocabulary.Call.TheVariants.{Take}
-use Rattle.bloom_steps.specs.Courses.{Course}
-use Rattle.bloom_steps.specs.Interleavings.{IsFoundInOther}
-use Rattle.bloom_steps.specs.CourseLaws.{BitsTell}
-use Rattle.bloom_steps.specs.Plans.{plan_of, turns_none_off}
-use Rattle.bloom_steps.specs.Scripts.{Taken}
-use Rattle.bloom_steps.specs.Steps.{record_decides, step_decides}
 use Rattle.bloom_steps.proofs.RunLemmas.Bounds.{NoneMakesOff, stays_to_end}
 use Rattle.bloom_steps.proofs.RunLemmas.Changes.{DecidesOnly, or-decides_only}
 use Rattle.bloom_steps.proofs.RunLemmas.InsertSteps.{Sets, or-parts, or-sets, set-after}
@@ -25,9 +16,7 @@ of-grower : (P : Call → Type 0) → ((hash : ℕ) → P (Insert hash))
 of-grower P ins look unites (Insert hash) passes = ins hash
 of-grower P ins look unites (Contains hash) passes = look hash
 of-grower P ins look unites Union passes = unites
-of-grower P ins look unites Clear passes = absurd (both_ways false refl passes)
-of-grower P ins look unites Intersect passes = absurd (both_ways false refl passes)
-of-grower P ins look unites Take passes = absurd (both_ways false refl passes)
+of-grower P ins look unites call passes = absurd (both_ways false refl passes)
 
 -- calls of a run, by their party and script
 pub record Owners (kind : Kind) (run : Course) (Of : ℕ → Call → List Taken → Type 0) : Type 0 where

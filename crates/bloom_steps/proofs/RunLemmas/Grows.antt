@@ -1,12 +1,6 @@
 -- What is set at the end of a growing run.
 use Rattle.std.proofs.Common.{◌∙◌, ◌≡◌, ◌⊎◌, List, Some, ap, inl, inr, length, subst, sym, true, ℕ}
-use Rattle.std.proofs.lemmas.Bool.{both_ways}
-use Rattle.bloom_steps.specs.Vocabulary.{Call, Insert, Began, Did}
-use Rattle.bloom_steps.specs.Courses.{Course, IsLawful, runs}
-use Rattle.bloom_steps.specs.CourseLaws.{EndsWithAll, IsInserted}
-use Rattle.bloom_steps.specs.Moments.{EveryCall, EveryCallEnded}
-use Rattle.bloom_steps.specs.Plans.{turns_none_off}
-use Rattle.bloom_steps.specs.Scripts.{IsBeginning, IsScript, Taken}
+use Rattle.bloom_steps.proofs.Common.{both_ways, Call, Insert, Began, Did, Course, IsLawful, runs, EndsWithAll, IsInserted, EveryCall, EveryCallEnded, turns_none_off, IsBeginning, IsScript, Taken}
 use Rattle.bloom_steps.proofs.RunLemmas.Growing.{Inserted, Owners, ends}
 use Rattle.bloom_steps.proofs.RunLemmas.Origins.{HasBegun, HasSteps}
 use Rattle.bloom_steps.proofs.RunLemmas.PartyRecords.{did_of-same}

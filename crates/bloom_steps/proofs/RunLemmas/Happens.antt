@@ -1,15 +1,7 @@
 -- What an event does to the world of a run: a party begins a call, makes a step, or does nothing.
 use Rattle.std.proofs.Common.{[], ◌++◌, ◌<◌, ◌^◌, ◌∙◌, ◌∷◌, ◌≡◌, List, None, Option, Some, ap, arith, false, length, length-set, refl, slice_index_or, slice_set, true, vec_len, ℕ}
 use Rattle.std.specs.Vec.{with_item}
-use Rattle.bloom_steps.specs.declared.steps.machine.Machine.{Machine}
-use Rattle.bloom_steps.specs.declared.steps.runner.World.{World}
-use Rattle.bloom_steps.specs.Vocabulary.{Call, End, Event, Begin, Go, Record, Began, Did, Step}
-use Rattle.bloom_steps.specs.Courses.{Gives}
-use Rattle.bloom_steps.specs.Machines.{AsksRight, StandsFurther}
-use Rattle.bloom_steps.specs.Memories.{found_in, words_after_step}
-use Rattle.bloom_steps.specs.Standing.{StandsAt, asks, end_of}
-use Rattle.bloom_steps.specs.Steps.{word_index}
-use Rattle.bloom_steps.specs.Worlds.{Happens, IsWorld, IsWorldOf, slot_runs}
+use Rattle.bloom_steps.proofs.Common.{Machine, World, Call, End, Event, Begin, Go, Record, Began, Did, Step, Gives, AsksRight, StandsFurther, found_in, words_after_step, StandsAt, asks, end_of, word_index, Happens, IsWorld, IsWorldOf, slot_runs}
 use Rattle.bloom_steps.proofs.RunLemmas.Events.{gives-begun, gives-busy, gives-idle, gives-step, grows-none, grows-one}
 use Rattle.bloom_steps.proofs.RunLemmas.Slots.{asks-going, asks-over, slot-read}
 use Rattle.bloom_steps.proofs.RunLemmas.Worlds.{begin_keeps, go_keeps, slot_same, step_inside}

@@ -1,15 +1,7 @@
 -- Inserts of any kind: each step sets bits of a set, and the reply is false exactly if some step
 -- found a bit clear that it sets. Such an insert tells of its own steps, in any interleaving.
 use Rattle.std.proofs.Common.{◌&&◌, ◌+◌, ◌/◌, ◌<◌, ◌∙◌, ◌≡◌, ◌≤◌, ◌↔◌, Bool, List, None, Some, ap, eq-eqb, false, if◌then◌else◌, inl, inr, nat_eq, slice_get, subst, sym, true, unwrap_or, ℕ}
-use Rattle.std.proofs.lemmas.Bool.{both_ways, eqb-true}
-use Rattle.std.proofs.lemmas.Option.{none-some}
-use Rattle.bloom_parts.specs.Content.{bit_is_on}
-use Rattle.bloom_steps.specs.Vocabulary.{End, Answer, Running, Did, Step, Or}
-use Rattle.bloom_steps.specs.Courses.{Course}
-use Rattle.bloom_steps.specs.Interleavings.{TurnsOneOn}
-use Rattle.bloom_steps.specs.Moments.{moment, turns_on}
-use Rattle.bloom_steps.specs.Scripts.{AllButLast, Any, Each, Last, Taken}
-use Rattle.bloom_steps.specs.Steps.{step_decides}
+use Rattle.bloom_steps.proofs.Common.{both_ways, eqb-true, none-some, bit_is_on, End, Answer, Running, Did, Step, Or, Course, TurnsOneOn, moment, turns_on, AllButLast, Any, Each, Last, Taken, step_decides}
 use Rattle.bloom_steps.proofs.RunLemmas.Changes.{DecidesOnly, and_cases, moment-more, or-decides_only, same-answer, turned_on, turning_on}
 use Rattle.bloom_steps.proofs.RunLemmas.Scripted.{FindsBits, FoundBits, OwnSteps}
 
@@ -81,8 +73,8 @@ module _ (run : Course) (m party : ℕ) (t : Taken)
       )
 
 -- the steps of an insert, in a course
-module _ (run : Course) (finds : FindsBits run) (party began last : ℕ) (ended : End)
-    (Is : ℕ → Type 0) (s : List Taken) (is : InsertSteps Is s)
+module _ {run : Course} (finds : FindsBits run) {party began last : ℕ} {ended : End}
+    {Is : ℕ → Type 0} {s : List Taken} (is : InsertSteps Is s)
     (own : OwnSteps run party began last ended s) where
   -- a step that found a position clear set it
   off-turns : (i : ℕ) (t : Taken) → slice_get s i ≡ Some t → FoundOff t

@@ -1,10 +1,6 @@
 -- Counts in courses of calls of any kind: what was set, taken, and left.
 use Rattle.std.proofs.Common.{◌≡◌, Some, inl, inr, refl, slice_get, ℕ}
-use Rattle.bloom_steps.specs.Vocabulary.{Record, Began, Did}
-use Rattle.bloom_steps.specs.CourseLaws.{EachStepOf}
-use Rattle.bloom_steps.specs.Courses.{Course}
-use Rattle.bloom_steps.specs.Interleavings.{LosesNothing, adds_or_takes, bits_taken}
-use Rattle.bloom_steps.specs.Plans.{goes_by_hash, plan_of}
+use Rattle.bloom_steps.proofs.Common.{Record, Began, Did, EachStepOf, Course, LosesNothing, adds_or_takes, bits_taken, goes_by_hash, plan_of}
 use Rattle.bloom_steps.proofs.RunLemmas.Balances.{AddsOrLoads, AddsOrTakes, Balances, adds, stays, takes-nothing}
 use Rattle.bloom_steps.proofs.RunLemmas.Changes.{moment-more}
 use Rattle.bloom_steps.proofs.RunLemmas.KindSteps.{StepKind, kind-of, of-adder, of-hash}

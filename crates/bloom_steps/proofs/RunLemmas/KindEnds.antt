@@ -1,14 +1,7 @@
 -- What every interleaving of calls of any kind gives, and with it how growing courses end.
 use Rattle.std.proofs.Common.{◌/◌, ◌≡◌, Bool, List, inl, inr, true, ℕ}
-use Rattle.bloom_steps.specs.Vocabulary.{Call, Insert, End}
+use Rattle.bloom_steps.proofs.Common.{Call, Insert, End, MadeBetween, CourseTells, EachStepOf, EndsWithInserts, EndsWithUnions, HasFinishedInsert, IsStepOf, Course, GainsOnce, IsFoundInOther, IsFinished, IsStepAt, goes_by_hash, plan_of, turns_none_off, Taken}
 use Rattle.bloom_steps.specs.declared.steps.vocabulary.Step.TheVariants as step
-use Rattle.bloom_steps.specs.Carried.{MadeBetween}
-use Rattle.bloom_steps.specs.CourseLaws.{CourseTells, EachStepOf, EndsWithInserts, EndsWithUnions, HasFinishedInsert, IsStepOf}
-use Rattle.bloom_steps.specs.Courses.{Course}
-use Rattle.bloom_steps.specs.Interleavings.{GainsOnce, IsFoundInOther}
-use Rattle.bloom_steps.specs.Moments.{IsFinished, IsStepAt}
-use Rattle.bloom_steps.specs.Plans.{goes_by_hash, plan_of, turns_none_off}
-use Rattle.bloom_steps.specs.Scripts.{Taken}
 use Rattle.bloom_steps.proofs.RunLemmas.Growing.{Owners, ends}
 use Rattle.bloom_steps.proofs.RunLemmas.KindCounts.{balanced, balances, takes-none}
 use Rattle.bloom_steps.proofs.RunLemmas.KindSteps.{StepKind, kind-of, of-hash}

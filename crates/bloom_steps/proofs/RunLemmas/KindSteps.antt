@@ -1,14 +1,8 @@
 -- What the steps of finished calls are, for calls of any kind.
 use Rattle.std.proofs.Common.{◌≡◌, Bool, List, Some, false, refl, slice_get, true, ℕ}
-use Rattle.std.proofs.lemmas.Bool.{both_ways}
-use Rattle.bloom_steps.specs.Vocabulary.{Call, Clear, Contains, Insert, Intersect, Union, Did, Step}
+use Rattle.bloom_steps.proofs.Common.{both_ways, Call, Clear, Contains, Insert, Intersect, Union, Did, Step, IsStepOf, Course, adds_or_takes, goes_by_hash, plan_of, Taken}
 use Rattle.bloom_steps.specs.declared.steps.vocabulary.Call.TheVariants.{Take}
 use Rattle.bloom_steps.specs.declared.steps.vocabulary.Step.TheVariants as step
-use Rattle.bloom_steps.specs.CourseLaws.{IsStepOf}
-use Rattle.bloom_steps.specs.Courses.{Course}
-use Rattle.bloom_steps.specs.Interleavings.{adds_or_takes}
-use Rattle.bloom_steps.specs.Plans.{goes_by_hash, plan_of}
-use Rattle.bloom_steps.specs.Scripts.{Taken}
 use Rattle.bloom_steps.proofs.RunLemmas.InsertSteps.{IsOr}
 use Rattle.bloom_steps.proofs.RunLemmas.Kinds.{Kind}
 use Rattle.bloom_steps.proofs.RunLemmas.Scripted.{IsScripted, step-of}
@@ -18,20 +12,15 @@ pub of-hash : (P : Call → Type 0) → ((hash : ℕ) → P (Insert hash))
     → ((hash : ℕ) → P (Contains hash)) → (call : Call) → goes_by_hash (plan_of call) ≡ true → P call
 of-hash P ins look (Insert hash) passes = ins hash
 of-hash P ins look (Contains hash) passes = look hash
-of-hash P ins look Clear passes = absurd (both_ways false refl passes)
-of-hash P ins look Union passes = absurd (both_ways false refl passes)
-of-hash P ins look Intersect passes = absurd (both_ways false refl passes)
-of-hash P ins look Take passes = absurd (both_ways false refl passes)
+of-hash P ins look call passes = absurd (both_ways false refl passes)
 
 -- a call that adds or takes is an insert, a look-up or a take
 pub of-adder : (P : Call → Type 0) → ((hash : ℕ) → P (Insert hash))
     → ((hash : ℕ) → P (Contains hash)) → P Take → (call : Call) → adds_or_takes call ≡ true → P call
 of-adder P ins look takes (Insert hash) passes = ins hash
 of-adder P ins look takes (Contains hash) passes = look hash
-of-adder P ins look takes Clear passes = absurd (both_ways false refl passes)
-of-adder P ins look takes Union passes = absurd (both_ways false refl passes)
-of-adder P ins look takes Intersect passes = absurd (both_ways false refl passes)
 of-adder P ins look takes Take passes = takes
+of-adder P ins look takes call passes = absurd (both_ways false refl passes)
 
 -- a course of calls of a kind
 module _ (kind : Kind) (run : Course) (course : IsScripted kind.Script run) where
@@ -58,7 +47,5 @@ module _ (kind : Kind) (run : Course) (course : IsScripted kind.Script run) wher
           → StepKind call t.step
       by (Insert hash) s is i got = (kind.inserts hash s is).masks i t got
       by (Contains hash) s is i got = (_, (kind.look_ups hash s is).steps i t got)
-      by Clear s is i got = tt
-      by Union s is i got = tt
-      by Intersect s is i got = tt
       by Take s is i got = (i, kind.takes s is i t got)
+      by call s is i got = tt

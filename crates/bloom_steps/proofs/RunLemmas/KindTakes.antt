@@ -1,14 +1,7 @@
 -- Takes in courses of calls of any kind: each finds what is there, and nothing is lost.
 use Rattle.std.proofs.Common.{if◌then◌else◌, ◌+◌, ◌-◌, ◌/◌, ◌<◌, ◌∙◌, ◌≡◌, ◌⊎◌, Bool, None, Some, ap, arith, eq-eqb, false, inl, inr, length, refl, slice_get, subst, suc, sym, true, unwrap_or, zero, ℕ}
-use Rattle.std.proofs.lemmas.Bool.Decides.{eqb_tells}
-use Rattle.bloom_parts.specs.Content.{content}
-use Rattle.bloom_steps.specs.Vocabulary.{Record, Began, Did}
+use Rattle.bloom_steps.proofs.Common.{eqb_tells, content, Record, Began, Did, EachStepOf, IsTakenSince, LosesNoPosition, TakesWhatIsThere, Course, adds_or_takes, moment, step_decides}
 use Rattle.bloom_steps.specs.declared.steps.vocabulary.Step.TheVariants as step
-use Rattle.bloom_steps.specs.CourseLaws.{EachStepOf, IsTakenSince, LosesNoPosition, TakesWhatIsThere}
-use Rattle.bloom_steps.specs.Courses.{Course}
-use Rattle.bloom_steps.specs.Interleavings.{adds_or_takes}
-use Rattle.bloom_steps.specs.Moments.{moment}
-use Rattle.bloom_steps.specs.Steps.{step_decides}
 use Rattle.bloom_steps.proofs.RunLemmas.Bounds.{content-end, not_off}
 use Rattle.bloom_steps.proofs.RunLemmas.Changes.{DecidesOnly, TurnsOff, moment-more, or-decides_only}
 use Rattle.bloom_steps.proofs.RunLemmas.KindSteps.{StepKind, kind-of, of-adder}

@@ -1,13 +1,9 @@
 -- What every interleaving gives, for calls of any kind: the scripts of a call may be any, where
 -- those of an insert set positions of its hash, and those of a look-up load their words.
 use Rattle.std.proofs.Common.{◌+◌, ◌-◌, ◌<◌, ◌∙◌, ◌≡◌, ◌≤◌, Bool, List, arith, false, refl, sym, true, ℕ}
-use Rattle.bloom_steps.specs.Vocabulary.{Call, Contains, Insert, Union, End, Answer}
+use Rattle.bloom_steps.proofs.Common.{Call, Contains, Insert, Union, End, Answer, Course, ContainsTell, FindsInserted, InsertsTell, IsFinished, NoneTurnedOff, moment, Each, Taken}
 use Rattle.bloom_steps.specs.declared.steps.vocabulary.Call.TheVariants.{Take}
 use Rattle.bloom_steps.specs.declared.steps.vocabulary.Step.TheVariants as step
-use Rattle.bloom_steps.specs.Courses.{Course}
-use Rattle.bloom_steps.specs.Interleavings.{ContainsTell, FindsInserted, InsertsTell}
-use Rattle.bloom_steps.specs.Moments.{IsFinished, NoneTurnedOff, moment}
-use Rattle.bloom_steps.specs.Scripts.{Each, Taken}
 use Rattle.bloom_steps.proofs.RunLemmas.Changes.{not_turned_off, persists}
 use Rattle.bloom_steps.proofs.RunLemmas.CopySteps.{CopySteps}
 use Rattle.bloom_steps.proofs.RunLemmas.InsertSteps.{InsertSteps, insert-covers, insert-tells}
@@ -72,8 +68,7 @@ module _ (kind : Kind) (run : Course) (course : IsScripted kind.Script run) wher
   pub inserts : InsertsTell run
   inserts party hash began last answer fin =
       let (s, is, own) = its-insert party hash began last (Answer answer) fin in
-      insert-tells run course.finds party began last (Answer answer) (kind.Positions hash) s is own
-      answer refl
+      insert-tells course.finds is own answer refl
 
   -- a finished insert is found
   pub found : FindsInserted kind.Positions run
@@ -82,22 +77,20 @@ module _ (kind : Kind) (run : Course) (course : IsScripted kind.Script run) wher
       let (s, sets, its) = its-insert inserter hash first done ended ins in
       let (r, looks, own) = its-look party hash began last (Answer answer) fin in
       let i = own.index in
-      let below = last-below run course.finds party began last answer kind.hashes at r looks own in
+      let below = last-below course.finds looks own in
       let (m, later, upto, on) =
-      insert-covers run course.finds inserter first done ended (kind.Positions hash) s sets its
-      (at i) (kind.members hash i below) in
+      insert-covers course.finds sets its (at i) (kind.members hash i below) in
       let order = fin.order in
-      last-tells run course.finds party began last answer kind.hashes at r looks own
+      last-tells course.finds looks own
       ∙ stays hash first last (m + 1) i below (omega arith) (omega arith) calm on
 
   -- a look-up is right at the moment of its last load
   pub contains : ContainsTell kind.Positions kind.is_in run
   contains party hash began last answer fin =
-      let at = kind.place hash in
       let now = moment run last in
       let (r, looks, own) = its-look party hash began last (Answer answer) fin in
-      let below = last-below run course.finds party began last answer kind.hashes at r looks own in
-      let tells = last-tells run course.finds party began last answer kind.hashes at r looks own in
+      let below = last-below course.finds looks own in
+      let tells = last-tells course.finds looks own in
       let lacks : answer ≡ false → kind.is_in hash now ≡ false = λ off.
       kind.off hash now own.index below (sym tells ∙ off) in
       let order = fin.order in
@@ -106,9 +99,7 @@ module _ (kind : Kind) (run : Course) (course : IsScripted kind.Script run) wher
         undisturbed = λ calm.
             both_alike answer (kind.is_in hash now)
             (λ hit. kind.all hash now (λ i few.
-            let (m, later, upto, on) =
-            found-on run course.finds party began last answer kind.hashes at r looks own hit i few
-            in
+            let (m, later, upto, on) = found-on course.finds looks own hit i few in
             stays hash (began + 1) last m i few (omega (arith, later)) upto calm on))
             lacks;
         off = lacks;

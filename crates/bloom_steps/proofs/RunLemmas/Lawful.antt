@@ -1,12 +1,6 @@
 -- The worlds of a run: that before the first event, and after the last a lawful course.
 use Rattle.std.proofs.Common.{[], ◌<◌, ◌^◌, ◌≡◌, ◌≤◌, List, None, Option, ap, length, subst, sym, ℕ}
-use Rattle.std.proofs.lemmas.Option.{none-some}
-use Rattle.std.specs.Prelude.{slice_index_or}
-use Rattle.bloom_parts.specs.Content.{content}
-use Rattle.bloom_steps.specs.declared.steps.machine.Machine.{Machine}
-use Rattle.bloom_parts.specs.Content.{AreWords}
-use Rattle.bloom_steps.specs.Courses.{Course, IsLawful, records_of}
-use Rattle.bloom_steps.specs.Worlds.{IsWorld, PartyAt}
+use Rattle.bloom_steps.proofs.Common.{none-some, slice_index_or, content, Machine, AreWords, Course, IsLawful, records_of, IsWorld, PartyAt}
 use Rattle.bloom_steps.proofs.RunLemmas.PartyCalls.{calls-party}
 use Rattle.bloom_steps.proofs.RunLemmas.PartyRecords.{records_of-none}
 

@@ -1,19 +1,13 @@
 -- In a lawful course a step that sets bits, or takes a word, does so in one of the words.
-use Rattle.std.proofs.Common.{◌*◌, ◌+◌, ◌/◌, ◌<◌, ◌∙◌, ◌≡◌, List, arith, inl, inr, length, subst, sym, true, ℕ}
-use Rattle.std.proofs.lemmas.Bool.{both_ways, cases_lt}
-use Rattle.std.proofs.lemmas.Option.{slice_get_within}
-use Rattle.bloom_parts.specs.Places.{place}
-use Rattle.bloom_steps.specs.Vocabulary.{Call, Clear, Contains, Insert, Intersect, Union}
+use Rattle.std.proofs.Common.{◌*◌, ◌+◌, ◌/◌, ◌<◌, ◌∙◌, ◌≡◌, List, arith, inl, inr, length, subst, sym, true, false, ℕ}
+use Rattle.bloom_steps.proofs.Common.{both_ways, cases_lt, slice_get_within, place, And, Call, Insert, Intersect, Or, Union, Course, IsLawful, moment, plan_of, Taken}
 use Rattle.bloom_steps.specs.declared.steps.vocabulary.Call.TheVariants.{Take}
-use Rattle.bloom_steps.specs.Courses.{Course, IsLawful}
-use Rattle.bloom_steps.specs.Moments.{moment}
-use Rattle.bloom_steps.specs.Plans.{plan_of}
-use Rattle.bloom_steps.specs.Scripts.{Taken}
 use Rattle.bloom_steps.proofs.RunLemmas.Bounds.{moment-past}
 use Rattle.bloom_steps.proofs.RunLemmas.Changes.{on-or}
 use Rattle.bloom_steps.proofs.RunLemmas.PlacedSteps.{IsPlacedAt}
 use Rattle.bloom_steps.proofs.RunLemmas.RecordedCalls.{step_held}
 use Rattle.bloom_steps.proofs.RunLemmas.Scripted.{IsWithin, StepsWithin}
+use Rattle.bloom_steps.proofs.StepLemmas.Going.{step-pair}
 
 -- a lawful course
 module _ (k : ℕ) (run : Course) (lawful : IsLawful k run) where
@@ -25,7 +19,7 @@ module _ (k : ℕ) (run : Course) (lawful : IsLawful k run) where
   pub lawful-within : StepsWithin run
   lawful-within m party did found ended g =
       let h = step_held k run lawful m party did found ended g in
-      subst (IsWithin w) h.same_step (by_call h.of.call h.of.s h.j h.t h.same_step h.at)
+      by_call h.call h.j h.at
     where
       set-below : (q : ℕ) → moment run (m + 1) q ≡ true → q / 64 < w
       set-below q on =
@@ -38,21 +32,20 @@ module _ (k : ℕ) (run : Course) (lawful : IsLawful k run) where
                 (moment-past k run lawful (m + 1) q (omega (arith, inside)) past) on)
           ]
 
-      by_call : (call : Call) (s : List Taken) (j : ℕ) (t : Taken) → t.step ≡ did
-          → IsPlacedAt w k (plan_of call) s j t → IsWithin w t.step
-      by_call (Insert hash) s j t same at =
+      by_call : (call : Call) (j : ℕ) → IsPlacedAt w k (plan_of call) j did → IsWithin w did
+      by_call (Insert hash) j at =
           let q = place (64 * w) hash j in
-          let u : Taken = record { step = did; found = found; ended = ended } in
-          subst (IsWithin w) (sym at.1)
-          (set-below q (on-or k run lawful m party q u g (sym same ∙ at.1)))
-      by_call (Contains hash) s j t same at = subst (IsWithin w) (sym at) tt
-      by_call Clear s j t same at = subst (IsWithin w) (sym at.1) tt
-      by_call Union s j t same at = elim at.either [
-        | inl load ↦ subst (IsWithin w) (sym load) tt
-        | inr u ↦ subst (IsWithin w) (sym u.3) at.below
+          let t : Taken = record { step = did; found = found; ended = ended } in
+          subst (IsWithin w) (sym at.2) (set-below q (on-or k run lawful m party q t g at.2))
+      by_call Union j (below, x, is) = elim (step-pair w Or true j x) [
+        | inl load ↦ subst (IsWithin w) (sym (is ∙ load)) tt
+        | inr write ↦
+            let within : j / 2 < w = omega (arith, below) in
+            subst (IsWithin w) (sym (is ∙ write)) within
       ]
-      by_call Intersect s j t same at = elim at.either [
-        | inl load ↦ subst (IsWithin w) (sym load) tt
-        | inr u ↦ subst (IsWithin w) (sym u.3) tt
+      by_call Intersect j (below, x, is) = elim (step-pair w And false j x) [
+        | inl load ↦ subst (IsWithin w) (sym (is ∙ load)) tt
+        | inr write ↦ subst (IsWithin w) (sym (is ∙ write)) tt
       ]
-      by_call Take s j t same at = subst (IsWithin w) (sym at.1) at.0
+      by_call Take j at = subst (IsWithin w) (sym at.2) at.0
+      by_call call j at = subst (IsWithin w) (sym at.2) tt

@@ -1,15 +1,7 @@
 -- Look-ups of any kind: each step loads the word of the next position, up to the first that is
 -- found clear. What such a look-up tells, in any interleaving.
 use Rattle.std.proofs.Common.{◌+◌, ◌<◌, ◌∙◌, ◌≡◌, ◌≤◌, Bool, List, Some, ap, arith, false, inl, inr, length, refl, slice_get, subst, sym, true, ℕ}
-use Rattle.std.proofs.lemmas.Bool.{both_ways}
-use Rattle.std.proofs.lemmas.Bool.Decides.{eqb_tells}
-use Rattle.std.proofs.lemmas.Option.{same_Some, slice_get_within}
-use Rattle.bloom_parts.specs.Content.{bit_is_on}
-use Rattle.bloom_steps.specs.Vocabulary.{Answer, Running, Did}
-use Rattle.bloom_steps.specs.Courses.{Course}
-use Rattle.bloom_steps.specs.Moments.{moment}
-use Rattle.bloom_steps.specs.Scripts.{AllButLast, Each, Last, Taken}
-use Rattle.bloom_steps.specs.Steps.{load_at}
+use Rattle.bloom_steps.proofs.Common.{both_ways, eqb_tells, same_Some, slice_get_within, bit_is_on, Answer, Running, Did, Course, moment, AllButLast, Each, Last, Taken, load_at}
 use Rattle.bloom_steps.proofs.RunLemmas.Changes.{same-answer}
 use Rattle.bloom_steps.proofs.RunLemmas.Scripted.{FindsBits, FoundBits, OwnSteps}
 use Rattle.bloom_steps.proofs.StepLemmas.Members.{some_member}
@@ -24,8 +16,8 @@ pub record LookSteps (k : ℕ) (at : ℕ → ℕ) (s : List Taken) : Type 0 wher
   pub last : Last s (λ i t. t.ended ≡ Answer (bit_is_on t.found (at i)))
 
 -- the steps of a look-up, in a course
-module _ (run : Course) (finds : FindsBits run) (party began last : ℕ) (answer : Bool) (k : ℕ)
-    (at : ℕ → ℕ) (s : List Taken) (is : LookSteps k at s)
+module _ {run : Course} (finds : FindsBits run) {party began last : ℕ} {answer : Bool} {k : ℕ}
+    {at : ℕ → ℕ} {s : List Taken} (is : LookSteps k at s)
     (own : OwnSteps run party began last (Answer answer) s) where
   -- what a step at a record found is the bit at that moment
   looked : (i : ℕ) (t : Taken) → slice_get s i ≡ Some t → (m : ℕ)

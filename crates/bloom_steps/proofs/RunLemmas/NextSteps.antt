@@ -1,9 +1,6 @@
 -- A step among a party's records goes on from its newest beginning.
 use Rattle.std.proofs.Common.{[], ◌++◌, ◌∙◌, ◌∷◌, ◌≡◌, ◌⊎◌, List, ap, append_assoc, inl, inr, refl, subst, sym, ℕ}
-use Rattle.std.proofs.lemmas.List.{append-nil}
-use Rattle.bloom_steps.specs.Vocabulary.{Call, Record, Began, Did}
-use Rattle.bloom_steps.specs.Scripts.{IsScript, Taken}
-use Rattle.bloom_steps.specs.Courses.{CallAfterCall, begun_call, did, no_call, whole_call}
+use Rattle.bloom_steps.proofs.Common.{append-nil, Call, Record, Began, Did, IsScript, Taken, CallAfterCall, begun_call, did, no_call, whole_call}
 use Rattle.bloom_steps.proofs.RunLemmas.PartyRecords.{did-same, did_of-same}
 
 -- the call that a step goes on with, after these records of its party

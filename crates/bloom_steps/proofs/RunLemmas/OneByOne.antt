@@ -1,11 +1,6 @@
 -- Calls made one at a time: the records are whole calls, one after the other.
 use Rattle.std.proofs.Common.{[], ◌++◌, ◌<◌, ◌∙◌, ◌∷◌, ◌≡◌, ◌≤◌, List, ap, arith, length, length-append, refl, subst, suc, sym, zero, ℕ}
-use Rattle.std.proofs.lemmas.List.{append-nil}
-use Rattle.bloom_steps.specs.Vocabulary.{Call, Record}
-use Rattle.bloom_steps.specs.Moments.{EveryCallEnded, OneAtATime}
-use Rattle.bloom_steps.specs.Scripts.{IsScript, Taken}
-use Rattle.bloom_steps.specs.Sequences.{Cut, MadeCall, cut}
-use Rattle.bloom_steps.specs.Courses.{CallAfterCall, call_records, did, records_of}
+use Rattle.bloom_steps.proofs.Common.{append-nil, Call, Record, EveryCallEnded, OneAtATime, IsScript, Taken, Cut, MadeCall, cut, CallAfterCall, call_records, did, records_of}
 use Rattle.bloom_steps.proofs.RunLemmas.Fronts.{FirstWhole, ended_later, first_whole, one_later}
 
 -- whole calls, one after the other, of whatever parties

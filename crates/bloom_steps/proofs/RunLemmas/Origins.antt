@@ -1,18 +1,12 @@
 -- Where a growing run's positions come from.
 use Rattle.bloom_steps.proofs.StepLemmas.Plans.{plan_decides, PlanDecides, on-only}
-use Rattle.bloom_steps.specs.Plans.{turns_none_off, Plan, plan_of, TurnsOn, LooksAt, EachWord, EachPair}
+use Rattle.bloom_steps.proofs.Common.{turns_none_off, Plan, plan_of, TurnsOn, LooksAt, EachWord, EachPair, both_ways, place, Call, Record, Began, Did, Step, EveryCall, Taken, after_records, record_decides, step_decides, Course, IsLawful}
 use Rattle.std.proofs.Common.{[], ◌%◌, ◌*◌, ◌/◌, ◌^◌, ◌∙◌, ◌∷◌, ◌≡◌, ◌⊎◌, Bool, List, None, Option, Some, ap, inl, inr, length, map, refl, slice_get, subst, suc, sym, true, unwrap_or, ℕ, false}
-use Rattle.std.proofs.lemmas.Bool.{both_ways}
-use Rattle.bloom_parts.specs.Places.{place}
-use Rattle.bloom_steps.specs.Vocabulary.{Call, Record, Began, Did}
-use Rattle.bloom_steps.specs.Moments.{EveryCall}
-use Rattle.bloom_steps.specs.Scripts.{Taken}
-use Rattle.bloom_steps.specs.Steps.{after_records, record_decides, step_decides}
-use Rattle.bloom_steps.specs.Courses.{Course, IsLawful}
 use Rattle.bloom_steps.proofs.RunLemmas.Bounds.{NoneMakesOff}
 use Rattle.bloom_steps.proofs.RunLemmas.Changes.{DecidesOnly, or-decides_only}
 use Rattle.bloom_steps.proofs.RunLemmas.RecordedCalls.{step_held}
 use Rattle.bloom_steps.proofs.RunLemmas.PlacedSteps.{IsPlacedAt}
+use Rattle.bloom_steps.proofs.StepLemmas.Going.{step-pair}
 use Rattle.bloom_steps.proofs.StepLemmas.Deciding.{state-first}
 
 -- some record decides to set a position
@@ -47,18 +41,20 @@ HasSteps run p s =
     × (slice_get run.records n ≡ Some (Did p t.step t.found t.ended))
 
 -- no step of a plan that clears nothing decides to clear anything
-grows_at : (w k q : ℕ) (plan : Plan) (s : List Taken) (j : ℕ) (t : Taken) → PlanDecides plan
-    → turns_none_off plan ≡ true → IsPlacedAt w k plan s j t → DecidesOnly (Some true) q t.step
-grows_at w k q (TurnsOn h) s j t does none at =
+grows_at : (w k q : ℕ) (plan : Plan) (j : ℕ) (step : Step) → PlanDecides plan
+    → turns_none_off plan ≡ true → IsPlacedAt w k plan j step → DecidesOnly (Some true) q step
+grows_at w k q (TurnsOn h) j step does none at =
     let r = place (64 * w) h j in
-    subst (DecidesOnly (Some true) q) (sym at.1) (or-decides_only (r / 64) (2 ^ (r % 64)) q)
-grows_at w k q (LooksAt h) s j t does none at = inl (ap (λ x. step_decides x q) at)
-grows_at w k q (EachWord op) s j t does none at = absurd (both_ways false refl none)
-grows_at w k q (EachPair op on) s j t does none at = elim at.either [
-  | inl load ↦ inl (ap (λ x. step_decides x q) load)
-  | inr u ↦
-      subst (DecidesOnly (Some true) q) (sym u.3) (on-only op on does.0 none at.i u.0.found q)
-]
+    subst (DecidesOnly (Some true) q) (sym at.2) (or-decides_only (r / 64) (2 ^ (r % 64)) q)
+grows_at w k q (LooksAt h) j step does none at = inl (ap (λ x. step_decides x q) at.2)
+grows_at w k q (EachWord op) j step does none at = absurd (both_ways false refl none)
+grows_at w k q (EachPair op on) j step does none (below, found, is) =
+    elim (step-pair w op on j found) [
+      | inl load ↦ inl (ap (λ x. step_decides x q) (is ∙ load))
+      | inr write ↦
+          subst (DecidesOnly (Some true) q) (sym (is ∙ write))
+          (on-only op on does.0 none (j / 2) found q)
+    ]
 
 -- a lawful run of calls that clear nothing
 module _ (k : ℕ) (run : Course) (lawful : IsLawful k run)
@@ -67,7 +63,5 @@ module _ (k : ℕ) (run : Course) (lawful : IsLawful k run)
   pub growing : (q : ℕ) → NoneMakesOff run q
   growing q m p step found e g =
       let h = step_held k run lawful m p step found e g in
-      let began = h.of.began in
-      subst (DecidesOnly (Some true) q) h.same_step
-      (grows_at (length run.start) k q (plan_of h.of.call) h.of.s h.j h.t (plan_decides h.of.call)
-      (none_off began.0 p h.of.call began.1) h.at)
+      grows_at (length run.start) k q (plan_of h.call) h.j step (plan_decides h.call)
+      (none_off h.began.0 p h.call h.began.1) h.at

@@ -1,13 +1,7 @@
 -- The script that a finished call's own records make, in a lawful course.
 use Rattle.std.proofs.Common.{[], ◌++◌, ◌+◌, ◌-◌, ◌∙◌, ◌∷◌, ◌≡◌, ◌≤◌, Bool, List, Some, add-one, ap, arith, drop, inl, inr, length, refl, slice_get, suc, sym, take, zero, ℕ}
-use Rattle.std.proofs.lemmas.List.{append-nil, drop-take}
-use Rattle.std.proofs.lemmas.Option.{none-some, same_Some}
-use Rattle.bloom_steps.specs.Vocabulary.{Call, End, Record, Began, Did, Step, And, Load, Or, Other, Zero}
+use Rattle.bloom_steps.proofs.Common.{append-nil, drop-take, none-some, same_Some, Call, End, Record, Began, Did, Step, And, Load, Or, Other, Zero, MadeBetween, IsFinished, moment, IsBeginning, IsScript, Taken, Course, IsLawful, MayFind, did, records_of}
 use Rattle.bloom_steps.specs.declared.steps.vocabulary.Step.TheVariants.{Take}
-use Rattle.bloom_steps.specs.Carried.{MadeBetween}
-use Rattle.bloom_steps.specs.Moments.{IsFinished, moment}
-use Rattle.bloom_steps.specs.Scripts.{IsBeginning, IsScript, Taken}
-use Rattle.bloom_steps.specs.Courses.{Course, IsLawful, MayFind, did, records_of}
 use Rattle.bloom_steps.proofs.RunLemmas.LawfulWithin.{lawful-within}
 use Rattle.bloom_steps.proofs.RunLemmas.RunningCalls.{one_end-script}
 use Rattle.bloom_steps.proofs.RunLemmas.PartyRecords.{did-got, own_of_record, records_of-append, records_of-mine}
@@ -111,12 +105,9 @@ module _ (k : ℕ) (run : Course) (lawful : IsLawful k run) (some_words : 1 ≤ 
 -- the word that a step found has the bits that were there
 found-bits : (A : ℕ → Bool) (step : Step) (found : ℕ) → MayFind A step found
     → FoundBits A step found
-found-bits A (Load i) found may = may.bits
-found-bits A (Or i mask) found may = may.bits
-found-bits A (And i mask) found may = may.bits
 found-bits A (Zero i) found may = tt
 found-bits A (Other i) found may = tt
-found-bits A (Take i) found may = may.bits
+found-bits A step found may = may.bits
 
 -- each step of a lawful run found the bits that were there
 pub lawful-finds : (k : ℕ) (run : Course) → IsLawful k run → FindsBits run

@@ -1,17 +1,9 @@
 -- What the steps of a union or an intersection make of a set.
 use Rattle.bloom_steps.proofs.StepLemmas.Plans.{TurnsBy, ReadsNoOther, made}
 use Rattle.std.proofs.Common.{[], ◌*◌, ◌++◌, ◌+◌, ◌/◌, ◌<◌, ◌∙◌, ◌∷◌, ◌≡◌, ◌≤◌, Bool, List, None, Some, ap, arith, eq-eqb, false, if◌then◌else◌, inl, inr, length, refl, slice_get, suc, sym, unwrap_or, zero, ℕ}
-use Rattle.std.proofs.lemmas.Bool.Decides.{eqb_tells}
-use Rattle.std.proofs.lemmas.Option.{get_or_from_slice_get, none-some, same_Some, slice_get_within}
-use Rattle.bloom_parts.specs.Content.{bit_is_on, content}
-use Rattle.bloom_parts.proofs.PublishedLemmas.{content-past}
-use Rattle.bloom_steps.specs.Vocabulary.{Step, Other}
-use Rattle.bloom_steps.specs.Scripts.{ArePairs, Taken}
-use Rattle.bloom_steps.specs.Sequences.{found_in_other, other_words}
-use Rattle.bloom_steps.specs.Steps.{after_records, step_decides}
-use Rattle.bloom_steps.specs.Courses.{did}
+use Rattle.bloom_steps.proofs.Common.{eqb_tells, get_or_from_slice_get, none-some, same_Some, slice_get_within, bit_is_on, content, content-past, Step, Other, AreStepsOf, Taken, EachPair, found_in_other, other_words, after_records, step_decides, did}
 use Rattle.bloom_steps.proofs.RunLemmas.CallSteps.{AllDecide, steps-some}
-use Rattle.bloom_steps.proofs.StepLemmas.Going.{parity}
+use Rattle.bloom_steps.proofs.StepLemmas.Going.{operates, parity, reads}
 use Rattle.bloom_steps.proofs.StepLemmas.Members.{some_member}
 use Rattle.bloom_steps.proofs.StepLemmas.Writing.{content-word}
 
@@ -81,13 +73,14 @@ words-length op j _ plain (one_pair _ t u rest load write more) =
 
 -- a whole list of pairs
 module _ (op : ℕ → ℕ → Step) (on : Bool) (by : TurnsBy op on) (plain : ReadsNoOther op)
-    (w : ℕ) (s : List Taken) (pairs : ArePairs op s) (l : length s ≡ 2 * w) where
+    (w : ℕ) (s : List Taken) (steps : AreStepsOf w (EachPair op on) s) (l : length s ≡ 2 * w)
+  where
   -- the steps are pairs from word 0 on
   from_start : PairsFrom op 0 s
   from_start =
       let none : (i : ℕ) → i ≡ 0 + i = λ i. omega arith in
-      pairs_from op w 0 s l (λ i t g. pairs.loads i t g ∙ ap Other (none i))
-      (λ i t u g f. pairs.writes i t u g f ∙ ap (λ j. op j t.found) (none i))
+      pairs_from op w 0 s l (λ i t g. reads w op on s steps i t g ∙ ap Other (none i))
+      (λ i t u g f. operates w op on s steps i t u g f ∙ ap (λ j. op j t.found) (none i))
 
   -- the bit of the other filter is that of the word which its load found
   other-bit : (q : ℕ) (t : Taken) → slice_get s (2 * (q / 64)) ≡ Some t
@@ -118,12 +111,13 @@ module _ (op : ℕ → ℕ → Step) (on : Bool) (by : TurnsBy op on) (plain : R
   pairs-all : (q : ℕ) → AllDecide s q (made on (content (other_words s) q))
   pairs-all q j u g = elim (parity j) [
     | inl even ↦
-        inl (ap (λ x. step_decides x q) (pairs.loads even.0 u (ap (slice_get s) (sym even.1) ∙ g)))
+        let here = ap (slice_get s) (sym even.1) ∙ g in
+        inl (ap (λ x. step_decides x q) (reads w op on s steps even.0 u here))
     | inr odd ↦
         let i = odd.0 in
         let within = slice_get_within s j u g in
         let there = some_member s (2 * i) (omega (arith, odd.1)) in
-        let e = pairs.writes i there.0 u there.1 (ap (slice_get s) (sym odd.1) ∙ g) in
+        let e = operates w op on s steps i there.0 u there.1 (ap (slice_get s) (sym odd.1) ∙ g) in
         elim (eqb_tells (q / 64) i) [
           | inl here ↦ inr (write-decides q i there.0 u there.1 e here.1)
           | inr other ↦
@@ -139,6 +133,6 @@ module _ (op : ℕ → ℕ → Step) (on : Bool) (by : TurnsBy op on) (plain : R
   pairs-steps p A q inside =
       let t = some_member s (2 * (q / 64)) (omega arith) in
       let u = some_member s (2 * (q / 64) + 1) (omega arith) in
+      let write = operates w op on s steps (q / 64) t.0 u.0 t.1 u.1 in
       steps-some p s A q (made on (content (other_words s) q)) (pairs-all q) (2 * (q / 64) + 1) u.0
-      u.1
-      (write-decides q (q / 64) t.0 u.0 t.1 (pairs.writes (q / 64) t.0 u.0 t.1 u.1) refl)
+      u.1 (write-decides q (q / 64) t.0 u.0 t.1 write refl)

@@ -1,17 +1,6 @@
 -- A party of a run: its machine, and its records.
 use Rattle.std.proofs.Common.{[], ◌++◌, ◌<◌, ◌∙◌, ◌∷◌, ◌≡◌, ◌≢◌, Bool, List, None, Option, Some, ap, append_assoc, false, get_or-set_other, get_or-set_same, inl, inr, length, not, refl, slice_set, subst, sym, true, ℕ}
-use Rattle.std.proofs.lemmas.Bool.{both_ways}
-use Rattle.std.proofs.lemmas.Bool.Decides.{eqb_tells}
-use Rattle.std.proofs.lemmas.List.{append-nil}
-use Rattle.std.specs.Prelude.{slice_index_or}
-use Rattle.bloom_steps.specs.Vocabulary.{Record, Began, Did, Step}
-use Rattle.bloom_steps.specs.declared.steps.machine.Machine.{Machine}
-use Rattle.bloom_steps.specs.Standing.{asks, end_of}
-use Rattle.bloom_steps.specs.Scripts.{Taken}
-use Rattle.bloom_steps.specs.Steps.{word_index}
-use Rattle.bloom_steps.specs.Courses.{CallAfterCall, begun_call, call_records, did, last_leaves_running, no_call, party_of, records_of, whole_call}
-use Rattle.bloom_steps.specs.Machines.{AsksRight, StandsFurther}
-use Rattle.bloom_steps.specs.Worlds.{AreWholeCalls, HasCalled, PartyAt, slot_runs}
+use Rattle.bloom_steps.proofs.Common.{not-false, eqb_tells, append-nil, slice_index_or, Record, Began, Did, Step, Machine, asks, end_of, Taken, word_index, CallAfterCall, begun_call, call_records, did, last_leaves_running, no_call, party_of, records_of, whole_call, AsksRight, StandsFurther, AreWholeCalls, HasCalled, PartyAt, slot_runs}
 use Rattle.bloom_steps.proofs.RunLemmas.RunningCalls.{newest-append, newest-call, still_runs-machine}
 use Rattle.bloom_steps.proofs.RunLemmas.PartyRecords.{did-more, records_of-more, records_of-same}
 use Rattle.bloom_steps.proofs.StepLemmas.Completing.{finish}
@@ -52,11 +41,7 @@ module _ (w k p : ℕ) where
       (subst (CallAfterCall w k p)
       (sym (append_assoc at.earlier (call_records p at.call at.taken) later))
       (at.before (call_records p at.call at.taken ++ later)
-      (whole_call at.call at.taken later (at.stands.whole (over m.ended off)) calls)))
-    where
-      over : (b : Bool) → not b ≡ false → b ≡ true
-      over true e = refl
-      over false e = absurd (both_ways true e refl)
+      (whole_call at.call at.taken later (at.stands.whole (not-false m.ended off)) calls)))
 
   -- a step that the party's machine asks for is on one of the words
   pub step-within : (m : Machine) (rs : List Record) (step : Step) → HasCalled w k p m rs

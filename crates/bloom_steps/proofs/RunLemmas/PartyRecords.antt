@@ -1,11 +1,9 @@
 -- The records of one party among all.
-use Rattle.std.proofs.Common.{[], ◌++◌, ◌∙◌, ◌∷◌, ◌≡◌, ◌≢◌, ◌⊎◌, List, Some, ap, eq-eqb, if◌then◌else◌, inl, inr, refl, slice_get, subst, suc, sym, take, zero, ℕ}
-use Rattle.std.proofs.lemmas.Bool.Decides.{eqb_tells}
-use Rattle.std.proofs.lemmas.List.{append-nil}
-use Rattle.std.proofs.lemmas.Option.{none-some, same_Some}
-use Rattle.bloom_steps.specs.Vocabulary.{Record, Began, Did}
-use Rattle.bloom_steps.specs.Scripts.{Taken}
-use Rattle.bloom_steps.specs.Courses.{did, party_of, records_of}
+use Rattle.std.proofs.Common.{[], ◌++◌, ◌∙◌, ◌∷◌, ◌≡◌, ◌≢◌, ◌==◌, ◌⊎◌, List, Some, ap, option_map, eq-eqb, if◌then◌else◌, inl, inr, refl, slice_get, subst, suc, sym, take, zero, ℕ}
+use Rattle.std.proofs.lemmas.List.{map-append, take-map}
+use Rattle.std.proofs.lemmas.List.Elements.{filter-append}
+use Rattle.std.proofs.lemmas.Option.{slice_get-map}
+use Rattle.bloom_steps.proofs.Common.{eqb_tells, append-nil, none-some, same_Some, Record, Began, Did, Taken, did, party_of, records_of}
 
 -- a record of the party's own stays
 pub records_of-mine : (p : ℕ) (r : Record) (rs : List Record) → party_of r ≡ p
@@ -36,16 +34,8 @@ mine_or_not p r = elim (eqb_tells (party_of r) p) [ inl y ↦ inl y.1 | inr n �
 -- a party's own records of two lists, one after the other
 pub records_of-append : (p : ℕ) (xs ys : List Record)
     → records_of p (xs ++ ys) ≡ records_of p xs ++ records_of p ys
-records_of-append p [] ys = ap (λ l. l ++ records_of p ys) (sym (records_of-none p))
-records_of-append p (x ∷ xs) ys =
-    elim (mine_or_not p x) [
-      | inl y ↦
-          records_of-mine p x (xs ++ ys) y ∙ ap (λ l. x ∷ l) (records_of-append p xs ys)
-          ∙ ap (λ l. l ++ records_of p ys) (sym (records_of-mine p x xs y))
-      | inr n ↦
-          records_of-other p x (xs ++ ys) n ∙ records_of-append p xs ys
-          ∙ ap (λ l. l ++ records_of p ys) (sym (records_of-other p x xs n))
-    ]
+unfolding records_of
+records_of-append p xs ys = filter-append (λ r. party_of r == p) xs ys
 
 -- members of a party's records are records
 own_at : (p : ℕ) (x : Record) (xs : List Record) (i : ℕ) (r : Record)
@@ -117,13 +107,14 @@ pub did_of-same : (p q : ℕ) (t u : Taken)
     → Did p t.step t.found t.ended ≡ Did q u.step u.found u.ended → t ≡ u
 did_of-same p q t u e = ap (taken_of t) e
 
+-- the record of a step
+abbrev record_by : ℕ → Taken → Record
+record_by p t = Did p t.step t.found t.ended
+
 -- the records of steps, member by member
 pub did-get : (p : ℕ) (s : List Taken) (i : ℕ) (t : Taken) → slice_get s i ≡ Some t
     → slice_get (did p s) i ≡ Some (Did p t.step t.found t.ended)
-did-get p [] i t e = absurd (none-some t e)
-did-get p (u ∷ s) zero t e =
-    ap (λ (v : Taken). Some (Did p v.step v.found v.ended)) (same_Some _ _ e)
-did-get p (u ∷ s) (suc i) t e = did-get p s i t e
+did-get p s i t e = slice_get-map (record_by p) s i ∙ ap (option_map (record_by p)) e
 
 -- a record of steps is of the step at its place
 pub did-got : (p : ℕ) (s : List Taken) (i q : ℕ) (t : Taken)
@@ -135,14 +126,11 @@ did-got p (u ∷ s) (suc i) q t e = did-got p s i q t e
 -- the records of one step more
 pub did-more : (p : ℕ) (s : List Taken) (t : Taken)
     → did p (s ++ t ∷ []) ≡ did p s ++ Did p t.step t.found t.ended ∷ []
-did-more p [] t = refl
-did-more p (u ∷ s) t = ap (λ l. Did p u.step u.found u.ended ∷ l) (did-more p s t)
+did-more p s t = map-append (record_by p) s (t ∷ [])
 
 -- the records of the first steps
 pub did-take : (p n : ℕ) (s : List Taken) → take n (did p s) ≡ did p (take n s)
-did-take p zero s = refl
-did-take p (suc n) [] = refl
-did-take p (suc n) (t ∷ s) = ap (λ l. Did p t.step t.found t.ended ∷ l) (did-take p n s)
+did-take p n s = take-map (record_by p) n s
 
 -- equal records are of equal steps
 pub did-same : (p : ℕ) (s u : List Taken) → did p s ≡ did p u → s ≡ u

@@ -1,16 +1,6 @@
 -- The calls of a Bloom filter are of a kind: what their scripts do.
 use Rattle.std.proofs.Common.{◌%◌, ◌*◌, ◌/◌, ◌^◌, ◌∙◌, ◌≡◌, ◌≤◌, List, Some, ap, arith, inl, inr, length, slice_get, sym, true, ℕ}
-use Rattle.std.proofs.lemmas.Option.{none-some, slice_get_within}
-use Rattle.bloom_parts.specs.Content.{bit_is_on}
-use Rattle.bloom_parts.specs.Places.{IsPosition, are_in, place}
-use Rattle.bloom_parts.proofs.PublishedLemmas.{are_in-off, place-position}
-use Rattle.bloom_steps.specs.Vocabulary.{Contains, Insert}
-use Rattle.bloom_steps.specs.Carried.{IsCourseOf}
-use Rattle.bloom_steps.specs.CourseLaws.{CourseTells}
-use Rattle.bloom_steps.specs.Courses.{Course, IsLawful}
-use Rattle.bloom_steps.specs.Moments.{bits_of}
-use Rattle.bloom_steps.specs.Scripts.{IsScript, Taken}
-use Rattle.bloom_steps.specs.Steps.{step_decides}
+use Rattle.bloom_steps.proofs.Common.{none-some, slice_get_within, bit_is_on, IsPosition, are_in, place, are_in-off, place-position, Contains, Insert, IsCourseOf, CourseTells, Course, IsLawful, bits_of, IsScript, Taken, step_decides}
 use Rattle.bloom_steps.proofs.RunLemmas.CarriedOut.{course_tells}
 use Rattle.bloom_steps.proofs.RunLemmas.Changes.{or_at-decides, or_at-own}
 use Rattle.bloom_steps.proofs.RunLemmas.CopySteps.{union-steps}

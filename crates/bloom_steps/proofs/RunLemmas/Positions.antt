@@ -1,7 +1,6 @@
 -- The positions of a hash, place by place.
 use Rattle.std.proofs.Common.{◌&&◌, ◌<◌, ◌∙◌, ◌≡◌, Bool, ap, arith, false, refl, suc, sym, true, zero, ℕ}
-use Rattle.std.proofs.lemmas.Bool.{and_from}
-use Rattle.bloom_parts.specs.Places.{are_in, place}
+use Rattle.bloom_steps.proofs.Common.{and_from, are_in, place}
 
 -- where each place is in a set, all are
 pub are_in-all : (n k hash : ℕ) (A : ℕ → Bool) → ((i : ℕ) → i < k → A (place n hash i) ≡ true)

@@ -1,13 +1,9 @@
 -- Each record is of a call whose script, or a beginning of it, stands among the records.
-use Rattle.bloom_steps.specs.Plans.{plan_of}
-use Rattle.std.proofs.Common.{[], ◌++◌, ◌+◌, ◌∙◌, ◌∷◌, ◌≡◌, ◌⊎◌, Bool, List, Some, inl, inr, length, refl, slice_get, suc, sym, zero, ℕ}
-use Rattle.std.proofs.lemmas.Option.{none-some, same_Some}
-use Rattle.bloom_steps.specs.Vocabulary.{Call, End, Record, Began, Did, Step}
-use Rattle.bloom_steps.specs.Scripts.{Taken}
-use Rattle.bloom_steps.specs.Courses.{CallAfterCall, Course, IsLawful, begun_call, did, last_leaves_running, no_call, party_of, records_of, runs, whole_call}
+use Rattle.bloom_steps.proofs.Common.{plan_of, none-some, same_Some, Call, End, Record, Began, Did, Step, Taken, CallAfterCall, Course, IsLawful, begun_call, did, last_leaves_running, no_call, party_of, records_of, runs, whole_call}
+use Rattle.std.proofs.Common.{[], ◌++◌, ◌+◌, ◌∙◌, ◌∷◌, ◌≡◌, ◌⊎◌, Bool, List, Some, inl, inr, length, refl, slice_get, subst, suc, sym, zero, ℕ}
 use Rattle.bloom_steps.proofs.RunLemmas.RunningCalls.{newest-call, newest_kept, still_runs-beginning}
 use Rattle.bloom_steps.proofs.RunLemmas.PartyRecords.{did-get, own_of_record, record_of_own}
-use Rattle.bloom_steps.proofs.RunLemmas.PlacedSteps.{Holds, IsOneOf, IsPlacedAt, front_of, placed}
+use Rattle.bloom_steps.proofs.RunLemmas.PlacedSteps.{Holds, IsOneOf, IsPlacedAt, placed}
 use Rattle.bloom_steps.proofs.StepLemmas.Members.{member-back, member-front, member_of_append}
 
 -- a record of a call is its beginning, or one of its steps
@@ -66,17 +62,12 @@ held_in w k p _ i r (whole_call call s later is more) g =
           }
     ]
 
--- the call of a step, and the step's place in it
-pub record HoldsStep
-    (w k p : ℕ) (rs : List Record) (going : Bool) (r : Record) (step : Step)
-    (found : ℕ) : Type 0 where
-  pub of : Holds w k p rs going r
+-- a call that a party began, and a step's place in it
+pub record HoldsStep (w k p : ℕ) (rs : List Record) (step : Step) : Type 0 where
+  pub call : Call
+  pub began : (n : ℕ) × (slice_get rs n ≡ Some (Began p call))
   pub j : ℕ
-  pub t : Taken
-  pub here : slice_get of.s j ≡ Some t
-  pub same_step : t.step ≡ step
-  pub same_found : t.found ≡ found
-  pub at : IsPlacedAt w k (plan_of of.call) of.s j t
+  pub at : IsPlacedAt w k (plan_of call) j step
 
 -- a lawful run
 module _ (k : ℕ) (run : Course) (lawful : IsLawful k run) where
@@ -103,23 +94,20 @@ module _ (k : ℕ) (run : Course) (lawful : IsLawful k run) where
   -- the call of a step
   pub step_held : (m p : ℕ) (step : Step) (found : ℕ) (e : End)
       → slice_get run.records m ≡ Some (Did p step found e)
-      → HoldsStep (length run.start) k p run.records (runs p run.records)
-      (Did p step found e) step found
+      → HoldsStep (length run.start) k p run.records step
   step_held m p step found e g =
+      let w = length run.start in
       let h = held m (Did p step found e) g in
       elim h.which [
         | inl b ↦ absurd (cc)
-        | inr at ↦
-            let same = at.3 in
+        | inr (j, t, here, same) ↦
+            let same_step : t.step ≡ step = cc in
             record {
-              of = h;
-              j = at.0;
-              t = at.1;
-              here = at.2;
-              same_step = cc;
-              same_found = cc;
+              call = h.call;
+              began = h.began;
+              j = j;
               at =
-                  placed (length run.start) k h.call h.s
-                  (front_of _ k p run.records _ _ h) at.0 at.1 at.2;
+                  subst (IsPlacedAt w k (plan_of h.call) j) same_step
+                  (placed w k p run.records _ _ h j t here);
             }
       ]

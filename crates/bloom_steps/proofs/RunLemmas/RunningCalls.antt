@@ -1,16 +1,9 @@
 -- Whether a party runs a call: its newest record.
-use Rattle.bloom_steps.specs.Plans.{plan_of}
+use Rattle.bloom_steps.proofs.Common.{plan_of, none-some, same_Some, Call, End, Answer, Done, Running, Record, Began, Did, Step, Machine, StandsAt, Each, IsBeginning, IsScript, Taken, did, last_leaves_running, leaves_running, records_of, runs}
 use Rattle.std.proofs.Common.{[], ◌++◌, ◌+◌, ◌-◌, ◌<◌, ◌∙◌, ◌∷◌, ◌≡◌, ◌≢◌, ◌≤◌, Bool, List, Some, ap, arith, false, length, not, refl, slice_get, subst, suc, sym, true, zero, ℕ}
-use Rattle.std.proofs.lemmas.Option.{none-some, same_Some}
-use Rattle.bloom_steps.specs.Vocabulary.{Call, End, Answer, Done, Running, Record, Began, Did, Step}
-use Rattle.bloom_steps.specs.declared.steps.machine.Machine.{Machine}
-use Rattle.bloom_steps.specs.Standing.{StandsAt}
 use Rattle.bloom_parts.specs.Operations.{reply}
-use Rattle.bloom_steps.specs.Scripts.{Each, IsBeginning, IsScript, Taken}
-use Rattle.bloom_steps.specs.Courses.{did, last_leaves_running, leaves_running, records_of, runs}
 use Rattle.bloom_steps.proofs.RunLemmas.PartyRecords.{records_of-append}
-use Rattle.bloom_steps.proofs.StepLemmas.Members.{some_member}
-use Rattle.bloom_steps.proofs.StepLemmas.Whole.{beginning_runs, last-not_running, script_some}
+use Rattle.bloom_steps.proofs.StepLemmas.Whole.{beginning_runs, end_after, last-not_running, last-of, script_some}
 
 -- whether a call goes on after a step
 abbrev pub is_running : End → Bool
@@ -20,9 +13,7 @@ is_running (Answer reply) = false
 
 -- whether a call goes on after these steps
 abbrev pub still_runs : List Taken → Bool
-still_runs [] = true
-still_runs (t ∷ []) = is_running t.ended
-still_runs (t ∷ (u ∷ rest)) = still_runs (u ∷ rest)
+still_runs s = is_running (end_after s)
 
 -- each step but the last leaves the call running, and the last doesn't
 pub record OneEnd (s : List Taken) : Type 0 where
@@ -58,8 +49,7 @@ newest-append (x ∷ (z ∷ xs)) ys y = newest-append (z ∷ xs) ys y
 leaves-did : (p : ℕ) (step : Step) (found : ℕ) (e : End)
     → leaves_running (Did p step found e) ≡ is_running e
 leaves-did p step found Running = refl
-leaves-did p step found Done = refl
-leaves-did p step found (Answer b) = refl
+leaves-did p step found end = refl
 
 -- records of steps leave a call running as the last does
 newest-did : (p : ℕ) (t : Taken) (s : List Taken)
@@ -99,33 +89,21 @@ pub still_runs-beginning : (w k : ℕ) (call : Call) (s : List Taken) → IsBegi
 still_runs-beginning w k call s begun =
     still_runs-all s (λ i t g. beginning_runs w k call s i t begun g)
 
--- whether a call goes on is what the last step says
-still_runs-last : (s : List Taken) (i : ℕ) (t : Taken) → slice_get s i ≡ Some t → i + 1 ≡ length s
-    → still_runs s ≡ is_running t.ended
-still_runs-last [] i t g l = absurd (none-some t g)
-still_runs-last (u ∷ []) zero t g l = ap (λ (v : Taken). is_running v.ended) (same_Some _ _ g)
-still_runs-last (u ∷ []) (suc i) t g l = absurd (none-some t g)
-still_runs-last (u ∷ (v ∷ s)) zero t g l = absurd (omega arith)
-still_runs-last (u ∷ (v ∷ s)) (suc i) t g l = still_runs-last (v ∷ s) i t g (omega arith)
-
 -- an end that isn't running is over
 not_running : (e : End) → e ≢ Running → is_running e ≡ false
 not_running Running apart = absurd (apart refl)
-not_running Done apart = refl
-not_running (Answer b) apart = refl
+not_running end apart = refl
 
 -- after a whole script the call has ended
 pub still_runs-script : (w k : ℕ) (call : Call) (s : List Taken) → 1 ≤ w → 1 ≤ k
     → IsScript w k call s
     → still_runs s ≡ false
 still_runs-script w k call s some_words some_hashes is =
-    let some = script_some w k call s some_words some_hashes is in
-    let t = some_member s (length s - 1) (omega arith) in
-    let at_end : (length s - 1) + 1 ≡ length s = omega arith in
-    still_runs-last s (length s - 1) t.0 t.1 at_end
-    ∙ not_running t.0.ended
-    (last-not_running w (plan_of call) s (length s - 1) t.0 t.1 at_end
-    (is.last (length s - 1) t.0 t.1 at_end))
+    let last = last-of s (script_some w k call s some_words some_hashes is) in
+    let end = is.last last.index last.step last.stands last.is_last in
+    ap is_running last.ends
+    ∙ not_running last.step.ended
+    (last-not_running w (plan_of call) s last.index last.step last.stands last.is_last end)
 
 -- a machine's call goes on exactly if its steps so far leave it running
 pub still_runs-machine : (m : Machine) (w k : ℕ) (call : Call) (s : List Taken)

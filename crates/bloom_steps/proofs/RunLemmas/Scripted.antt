@@ -1,16 +1,8 @@
 -- Courses whose finished calls made scripts, of whatever kind: what each step found, and the steps
 -- of each finished call.
 use Rattle.std.proofs.Common.{◌+◌, ◌-◌, ◌/◌, ◌<◌, ◌∙◌, ◌≡◌, ◌≤◌, List, Some, ap, arith, drop, inl, inr, length, refl, slice_get, suc, sym, take, zero, ℕ, [], ◌∷◌, Bool}
-use Rattle.std.proofs.lemmas.Bool.Decides.{eqb_tells}
-use Rattle.std.proofs.lemmas.Option.{slice_get_within}
-use Rattle.bloom_parts.specs.Content.{bit_is_on}
-use Rattle.bloom_steps.specs.Vocabulary.{Call, End, Running, Did, Step, And, Load, Or, Other, Zero}
+use Rattle.bloom_steps.proofs.Common.{eqb_tells, slice_get_within, bit_is_on, Call, End, Running, Did, Step, And, Load, Or, Other, Zero, MadeBetween, Course, BitsTell, IsFinished, moment, AllButLast, Taken}
 use Rattle.bloom_steps.specs.declared.steps.vocabulary.Step.TheVariants.{Take}
-use Rattle.bloom_steps.specs.Carried.{MadeBetween}
-use Rattle.bloom_steps.specs.Courses.{Course}
-use Rattle.bloom_steps.specs.CourseLaws.{BitsTell}
-use Rattle.bloom_steps.specs.Moments.{IsFinished, moment}
-use Rattle.bloom_steps.specs.Scripts.{AllButLast, Taken}
 use Rattle.bloom_steps.proofs.RunLemmas.PartyRecords.{did-get, did-got, own_of_record, record_of_own}
 use Rattle.bloom_steps.proofs.StepLemmas.Members.{member-take, member_of_take}
 

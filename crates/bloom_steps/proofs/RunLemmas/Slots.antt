@@ -1,11 +1,6 @@
 -- The slot of a party, and whether its machine's call goes on.
-use Rattle.bloom_steps.specs.Plans.{plan_of}
+use Rattle.bloom_steps.proofs.Common.{plan_of, none-some, slice_index_or, Step, Machine, asks, next_step}
 use Rattle.std.proofs.Common.{[], ◌<◌, ◌∙◌, ◌∷◌, ◌≡◌, Bool, List, None, Option, Some, arith, false, if◌then◌else◌, length, not, refl, suc, sym, true, zero, ℕ}
-use Rattle.std.proofs.lemmas.Option.{none-some}
-use Rattle.std.specs.Prelude.{slice_index_or}
-use Rattle.bloom_steps.specs.Vocabulary.{Step}
-use Rattle.bloom_steps.specs.declared.steps.machine.Machine.{Machine}
-use Rattle.bloom_steps.specs.Standing.{asks, next_step}
 
 -- what is read at an index is what stands there
 pub slot-read : (machines : List (Option Machine)) (p : ℕ) (o : Option Machine)

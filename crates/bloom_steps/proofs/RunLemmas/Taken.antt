@@ -1,15 +1,7 @@
 -- What was set at the start or since is what was taken or is left: where each record balances.
 use Rattle.std.proofs.Common.{◌+◌, ◌∙◌, ◌≡◌, ◌≤◌, Some, add-one, ap, arith, length, refl, slice_get, subst, suc, sym, take, true, zero, ℕ}
-use Rattle.std.proofs.Math.Seq.{take-length}
+use Rattle.bloom_steps.proofs.Common.{take-length, get_or_from_slice_get, sum_by, content, Record, BitsTell, Course, GainsOnce, IsBalanced, LosesNothing, bits_gained, bits_taken, count_below, bits_of}
 use Rattle.std.proofs.lemmas.List.Sums.{sum_by_more}
-use Rattle.std.proofs.lemmas.Option.{get_or_from_slice_get}
-use Rattle.std.specs.Prelude.{sum_by}
-use Rattle.bloom_parts.specs.Content.{content}
-use Rattle.bloom_steps.specs.Vocabulary.{Record}
-use Rattle.bloom_steps.specs.CourseLaws.{BitsTell}
-use Rattle.bloom_steps.specs.Courses.{Course}
-use Rattle.bloom_steps.specs.Interleavings.{GainsOnce, IsBalanced, LosesNothing, bits_gained, bits_taken, count_below}
-use Rattle.bloom_steps.specs.Moments.{bits_of}
 use Rattle.bloom_steps.proofs.RunLemmas.Balances.{Balances, on_at}
 use Rattle.bloom_steps.proofs.RunLemmas.Bounds.{content-end}
 use Rattle.bloom_steps.proofs.RunLemmas.Counting.{count_below-part, count_below-same}

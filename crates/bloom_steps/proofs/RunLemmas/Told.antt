@@ -1,16 +1,7 @@
 -- What a finished run tells: all that is promised of its course.
 use Rattle.std.proofs.Common.{[], ◌≡◌, ◌≤◌, List, Ok, length, subst, sym, take_all, ℕ}
-use Rattle.std.specs.Prelude.{IsOkUnless}
-use Rattle.bloom_parts.specs.Content.{AreWords}
-use Rattle.bloom_parts.specs.Places.{IsPosition, are_in}
+use Rattle.bloom_steps.proofs.Common.{IsOkUnless, AreWords, IsPosition, are_in, World, Event, EndsWithAll, Course, Follows, FollowsFrom, IsLawful, ContainsTell, CountsGains, FindsInserted, InsertsTell, TakesLoseNothing, bits_of, ActsAsCommands}
 use Rattle.bloom_parts.specs.declared.error.FilterError.TheVariants.{Memory}
-use Rattle.bloom_steps.specs.declared.steps.runner.World.{World}
-use Rattle.bloom_steps.specs.Vocabulary.{Event}
-use Rattle.bloom_steps.specs.CourseLaws.{EndsWithAll}
-use Rattle.bloom_steps.specs.Courses.{Course, Follows, FollowsFrom, IsLawful}
-use Rattle.bloom_steps.specs.Interleavings.{ContainsTell, CountsGains, FindsInserted, InsertsTell, TakesLoseNothing}
-use Rattle.bloom_steps.specs.Moments.{bits_of}
-use Rattle.bloom_steps.specs.Sequences.{ActsAsCommands}
 use Rattle.bloom_steps.proofs.RunLemmas.CourseLaws.{course_law}
 use Rattle.bloom_steps.proofs.RunLemmas.Follows.{HasRun}
 use Rattle.bloom_steps.proofs.RunLemmas.Lawful.{lawful_world}

@@ -1,26 +1,14 @@
 -- What a step finds, and how it ends its call, is one.
 use Rattle.std.proofs.Common.{[], ◌%◌, ◌*◌, ◌++◌, ◌+◌, ◌/◌, ◌<◌, ◌^◌, ◌∙◌, ◌∷◌, ◌≡◌, Bool, List, ap, arith, false, inl, inr, length, length-append, nat_eq, refl, suc, sym, true, zero, ℕ}
-use Rattle.std.proofs.lemmas.Bool.{both_ways}
+use Rattle.bloom_steps.proofs.Common.{both_ways, bit_at, bit_is_on, place, Call, Answer, Step, And, Load, Or, Other, Zero, EachPair, EachWord, LooksAt, Plan, TurnsOn, plan_of, Any, IsLastEnd, IsScript, Taken, Fulfils, nat_tests, IsWordOf, MayFind, word_index}
 use Rattle.std.proofs.lemmas.Nat.Bits.{bit_at-lt, same_from_bits_below}
-use Rattle.std.specs.Int.{bit_at}
-use Rattle.bloom_parts.specs.Content.{bit_is_on}
-use Rattle.bloom_parts.specs.Places.{place}
-use Rattle.bloom_steps.specs.Vocabulary.{Call, Answer, Step, And, Load, Or, Other, Zero}
-use Rattle.bloom_steps.specs.Plans.{EachPair, EachWord, LooksAt, Plan, TurnsOn, plan_of}
 use Rattle.bloom_steps.specs.declared.steps.vocabulary.Step.TheVariants.{Take}
-use Rattle.bloom_steps.specs.Scripts.{Any, IsLastEnd, IsScript, Taken, Fulfils}
-use Rattle.bloom_steps.specs.Courses.{IsWordOf, MayFind}
 use Rattle.bloom_steps.proofs.StepLemmas.Growing.{length-more}
 use Rattle.bloom_steps.proofs.StepLemmas.Members.{member-front, member-seam, member_of_more}
 
 -- digits that are 1 together are the same
 digit-same : (a b : ℕ) → a < 2 → b < 2 → nat_eq a 1 ≡ nat_eq b 1 → a ≡ b
-digit-same zero zero l m e = refl
-digit-same zero (suc zero) l m e = absurd (both_ways (nat_eq 0 1) refl e)
-digit-same (suc zero) zero l m e = absurd (both_ways (nat_eq 0 1) refl (sym e))
-digit-same (suc zero) (suc zero) l m e = refl
-digit-same (suc (suc a)) b l m e = absurd (omega arith)
-digit-same a (suc (suc b)) l m e = absurd (omega arith)
+digit-same a b l m e = grind (arith, nat_tests)
 
 -- words of 64 bits with the same bits are the same
 word-same : (a b i : ℕ) → a < 2 ^ 64 → b < 2 ^ 64
@@ -41,12 +29,9 @@ word_there-same A i a b f g =
 pub found-same : (A : ℕ → Bool) (given : ℕ) (step : Step) (a b : ℕ) → MayFind A step a
     → MayFind A step b
     → ((i : ℕ) → step ≡ Other i → a ≡ given) → ((i : ℕ) → step ≡ Other i → b ≡ given) → a ≡ b
-found-same A given (Load i) a b f g x y = word_there-same A i a b f g
-found-same A given (Or i m) a b f g x y = word_there-same A i a b f g
-found-same A given (And i m) a b f g x y = word_there-same A i a b f g
 found-same A given (Zero i) a b f g x y = f ∙ sym g
 found-same A given (Other i) a b f g x y = x i refl ∙ sym (y i refl)
-found-same A given (Take i) a b f g x y = word_there-same A i a b f g
+found-same A given step a b f g x y = word_there-same A (word_index step) a b f g
 
 -- steps that differ in the end of the last alone have found the same
 any_off-same : (w h : ℕ) (s : List Taken) (t u : Taken) → t.found ≡ u.found
@@ -94,8 +79,7 @@ last-same w k call s t u e a b =
         a (length s) t (member-seam s [] t) (closes t)
         ∙ ap (λ f. Answer (bit_is_on f (place (64 * w) h (length s)))) e
         ∙ sym (b (length s) u (member-seam s [] u) (closes u))
-    by_plan (EachWord op) a b = a ∙ sym b
-    by_plan (EachPair op on) a b = a ∙ sym b
+    by_plan plan a b = a ∙ sym b
 
 -- a script that ends here is no front of another that found the same
 ends_here : (w k : ℕ) (call : Call) (s rest : List Taken) (t u v : Taken) → t.found ≡ u.found
@@ -108,15 +92,13 @@ ends_here w k call s rest t u v e a b =
         → Fulfils w k plan (s ++ u ∷ (v ∷ rest))
         → length (s ++ t ∷ []) ≡ length s + 1
         → length (s ++ u ∷ (v ∷ rest)) ≡ length s + suc (suc (length rest)) → ⊥
-    by_plan (TurnsOn h) a b l n = let x = a.count in let y = b.count in omega arith
     by_plan (LooksAt h) a b l n =
         let y = b.count in
         let here = place (64 * w) h (length s) in
         let off = a.stops.early (length s) t (member-seam s [] t) (omega arith) (omega arith) in
         let on = b.stops.earlier (length s) u (member-seam s (v ∷ rest) u) (omega arith) in
         both_ways (bit_is_on u.found here) (ap (λ f. bit_is_on f here) (sym e) ∙ off) on
-    by_plan (EachWord op) a b l n = let x = a.count in let y = b.count in omega arith
-    by_plan (EachPair op on) a b l n = let x = a.count in let y = b.count in omega arith
+    by_plan plan a b l n = let x = a.count in let y = b.count in omega arith
 
 -- how a step leaves its call is one
 pub end-same : (w k : ℕ) (call : Call) (s x y : List Taken) (t u : Taken) → t.found ≡ u.found

@@ -1,18 +1,7 @@
 -- What a run keeps, event by event.
 use Rattle.std.proofs.Common.{[], ◌++◌, ◌<◌, ◌^◌, ◌∙◌, ◌∷◌, ◌≡◌, Bool, List, None, Option, Some, ap, arith, false, inl, inr, length, refl, slice_index, slice_set, subst, sym, take, unwrap_or, ℕ}
-use Rattle.std.proofs.Math.Seq.{take-append_seam}
-use Rattle.std.proofs.lemmas.List.{set-get_or, take-append-le}
-use Rattle.std.specs.Prelude.{slice_index_or}
-use Rattle.bloom_parts.specs.Content.{bit_is_on, content}
-use Rattle.bloom_steps.specs.Vocabulary.{Call, End, Record, Began, Did, Step, And, Load, Or, Other, Zero}
+use Rattle.bloom_steps.proofs.Common.{take-append_seam, set-get_or, take-append-le, slice_index_or, bit_is_on, content, Call, End, Record, Began, Did, Step, And, Load, Or, Other, Zero, Machine, StandsAt, asks, end_of, found_in, words_after_step, after_records, step_decides, word_index, FindsWhatIsThere, IsWordOf, MayFind, records_of, runs, AsksRight, StandsFurther, HasCalled, IsWorld, PartyAt, slot_runs}
 use Rattle.bloom_steps.specs.declared.steps.vocabulary.Step.TheVariants.{Take}
-use Rattle.bloom_steps.specs.declared.steps.machine.Machine.{Machine}
-use Rattle.bloom_steps.specs.Standing.{StandsAt, asks, end_of}
-use Rattle.bloom_steps.specs.Memories.{found_in, words_after_step}
-use Rattle.bloom_steps.specs.Steps.{after_records, step_decides, word_index}
-use Rattle.bloom_steps.specs.Courses.{FindsWhatIsThere, IsWordOf, MayFind, records_of, runs}
-use Rattle.bloom_steps.specs.Machines.{AsksRight, StandsFurther}
-use Rattle.bloom_steps.specs.Worlds.{HasCalled, IsWorld, PartyAt, slot_runs}
 use Rattle.bloom_steps.proofs.RunLemmas.PartyCalls.{parties-more, runs-party, step-party, step-within, whole-party}
 use Rattle.bloom_steps.proofs.StepLemmas.Deciding.{records-more}
 use Rattle.bloom_steps.proofs.StepLemmas.Members.{member_of_more}
@@ -48,12 +37,10 @@ is_word-read A words i found all e fits = record {
 pub may_find-read : (A : ℕ → Bool) (words : List ℕ) (given found : ℕ) (step : Step)
     → ((p : ℕ) → content words p ≡ A p)
     → found ≡ found_in words given step → found < 2 ^ 64 → MayFind A step found
-may_find-read A words given found (Load i) all e fits = is_word-read A words i found all e fits
-may_find-read A words given found (Or i m) all e fits = is_word-read A words i found all e fits
-may_find-read A words given found (And i m) all e fits = is_word-read A words i found all e fits
 may_find-read A words given found (Zero i) all e fits = e
 may_find-read A words given found (Other i) all e fits = fits
-may_find-read A words given found (Take i) all e fits = is_word-read A words i found all e fits
+may_find-read A words given found step all e fits =
+    is_word-read A words (word_index step) found all e fits
 
 -- a world, and a party of it
 module _ (k : ℕ) (start words : List ℕ) (machines : List (Option Machine)) (rs : List Record)

@@ -1,12 +1,8 @@
 -- What machines ask and answer, how their calls stand, and how many steps are left: value by value.
 -- Each machine here is on two words with three hashes.
 use Rattle.std.proofs.Common.{◌≡◌, ◌<◌, ℕ, Bool, None, Some, true, false, refl, arith, lit<}
-use Rattle.std.proofs.lemmas.Bool.{both_ways}
-use Rattle.bloom_steps.specs.Vocabulary.{Or, Call, Insert, Contains, Clear, Union}
+use Rattle.bloom_steps.proofs.Common.{both_ways, Or, Call, Insert, Contains, Clear, Union, Machine, most_steps, plan_of, answers, asks, left}
 use Rattle.bloom_steps.specs.declared.steps.vocabulary.Call.TheVariants.{Take}
-use Rattle.bloom_steps.specs.declared.steps.machine.Machine.{Machine}
-use Rattle.bloom_steps.specs.Plans.{most_steps, plan_of}
-use Rattle.bloom_steps.specs.Standing.{answers, asks, left}
 
 -- a machine that runs a call, at place 64, and read the word 5 last
 abbrev running : (call : Call) (turn : ℕ) → turn < most_steps 2 3 (plan_of call) → Machine

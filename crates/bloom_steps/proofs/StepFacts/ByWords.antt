@@ -1,12 +1,7 @@
 -- What is a script of an insert by words, and steps near one that are none. The set has the
 -- positions 0 and 1 in its first word, and 64 in its second.
-use Rattle.std.proofs.Common.{◌/◌, ◌<◌, ◌≡◌, ◌∷◌, [], Bool, List, Some, ap, arith, false, lit<, refl, slice_get, suc, sym, true, zero, ℕ}
-use Rattle.std.proofs.lemmas.Option.{none-some, same_Some}
-use Rattle.bloom_parts.specs.Content.{content}
-use Rattle.bloom_steps.specs.Vocabulary.{Answer, Running, Or}
-use Rattle.bloom_steps.specs.ByWords.{Lacks, SetsByWords, SetsItsPart}
-use Rattle.bloom_steps.specs.Scripts.{Any, Taken}
-use Rattle.bloom_steps.specs.Steps.{word_index}
+use Rattle.std.proofs.Common.{◌/◌, ◌<◌, ◌≡◌, ◌∷◌, [], Bool, List, Some, ap, arith, false, lit<, refl, slice_get, subst, suc, sym, true, zero, ℕ}
+use Rattle.bloom_steps.proofs.Common.{both_ways, none-some, same_Some, content, Answer, Running, Or, Step, DrivesByWords, Lacks, SetsByWords, SetsItsPart, Any, Taken, word_index}
 use Rattle.bloom_steps.proofs.StepFacts.Members.{each-member, took}
 use Rattle.bloom_steps.proofs.StepLemmas.MaskSteps.{its-part, masks-bound}
 
@@ -80,3 +75,25 @@ is_script = (
     rises (suc zero) zero t u less got here = absurd (omega (arith, less))
     rises (suc zero) (suc (suc j)) t u less got here = absurd (none-some u here)
     rises (suc (suc i)) j t u less got here = absurd (none-some t got)
+
+-- some step of the two found a position clear
+some-lacks : Any found_one (λ i t. Lacks A t)
+some-lacks = (0, took (Or 0 3) 1 Running, refl, lacks-one)
+
+-- stores between which these two steps lead are those of an insert that replies false, and of none
+-- that replies true
+drives : {S : Type 0} (moved : S → Step → ℕ → S → Type 0) (a b c : S)
+    → moved a (Or 0 3) 1 b → moved b (Or 1 1) 1 c
+    → DrivesByWords moved A a c false
+    × ((is : DrivesByWords moved A a c true) → is.taken ≡ found_one → ⊥)
+drives moved a b c first second = (
+  record {
+    taken = found_one;
+    script = is_script.0;
+    linked = (b, first, (c, second, refl));
+    answers = ((λ off. some-lacks), (λ some. refl));
+  },
+  λ is same.
+      both_ways true
+      (is.answers.1 (subst (λ s. Any s (λ i t. Lacks A t)) (sym same) some-lacks)) refl,
+)

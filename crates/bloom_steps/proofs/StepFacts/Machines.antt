@@ -1,16 +1,8 @@
 -- Where a machine stands, what it asks and answers, and what is near that and doesn't hold.
 use Rattle.std.proofs.Common.{[], ℕ, None, Some, true, false, refl, arith, lit<, ◌+◌, ◌*◌, ◌/◌, ◌%◌, ◌^◌, ◌∙◌, ap, sym, add-one}
-use Rattle.std.specs.Int.{rotate_left, w64}
-use Rattle.bloom_parts.specs.Places.{place}
-use Rattle.bloom_steps.specs.Standing.{Replied}
-use Rattle.std.proofs.lemmas.Option.{none-some}
+use Rattle.bloom_steps.proofs.Common.{rotate_left, w64, place, Replied, none-some, chain, added_of, Load, Or, Insert, Machine, StandsAt, AsksRight, AnswersRight, StandsFurther}
 use Rattle.bloom_steps.proofs.StepLemmas.Replying.{stands_further}
 use Rattle.bloom_steps.proofs.StepLemmas.Asking.{asks_right}
-use Rattle.bloom_parts.specs.Chain.{chain, added_of}
-use Rattle.bloom_steps.specs.Vocabulary.{Load, Or, Insert}
-use Rattle.bloom_steps.specs.declared.steps.machine.Machine.{Machine}
-use Rattle.bloom_steps.specs.Standing.{StandsAt}
-use Rattle.bloom_steps.specs.Machines.{AsksRight, AnswersRight, StandsFurther}
 use Rattle.bloom_steps.proofs.StepFacts.Scripts.{is_script}
 
 -- an insert of hash 1 in one word with two hashes, at its beginning

@@ -1,9 +1,6 @@
 -- What is said of each member of a list, as one fact a member.
-use Rattle.std.proofs.Common.{◌≡◌, ◌∷◌, [], List, ℕ, zero, suc, Some, slice_get, subst, Bool, true, ◌&&◌}
-use Rattle.std.proofs.lemmas.Option.{none-some, same_Some}
-use Rattle.std.proofs.lemmas.Bool.{and_parts}
-use Rattle.bloom_steps.specs.Vocabulary.{Step, End}
-use Rattle.bloom_steps.specs.Scripts.{Taken}
+use Rattle.std.proofs.Common.{arith, ◌≡◌, ◌∷◌, [], List, ℕ, zero, suc, Some, slice_get, subst, Bool, true, ◌&&◌}
+use Rattle.bloom_steps.proofs.Common.{none-some, same_Some, and_parts, Step, End, Taken, Fulfils, HasCount, IsLastEnd, Plan, StopsRight, step_at}
 
 -- one fact for each member, by its index
 abbrev pub AllOf : {A : Type 0} → (ℕ → A → Type 0) → List A → Type 0
@@ -36,3 +33,15 @@ each-passes test (y ∷ ys) all zero x g =
 each-passes test (y ∷ ys) all (suc i) x g =
     each-passes (λ j. test (suc j)) ys
     (and_parts (test zero y) (all_pass (λ j. test (suc j)) ys) all).1 i x g
+
+-- one step is a whole script where it is the plan's and ends as that has to
+pub one-step : (w k : ℕ) (plan : Plan) (t : Taken) → HasCount w k plan 1
+    → t.step ≡ step_at w plan 0 0 → StopsRight w k plan (t ∷ [])
+    → IsLastEnd w plan (t ∷ []) t.ended → Fulfils w k plan (t ∷ [])
+one-step w k plan t count step stops last = record {
+  count = count;
+  steps = each-member _ (t ∷ []) (step, tt);
+  stops = stops;
+  running = each-member _ (t ∷ []) ((λ l. absurd (omega (arith, l))), tt);
+  last = each-member _ (t ∷ []) ((λ l. last), tt);
+}

@@ -1,9 +1,7 @@
 -- What is a script of a call, and steps near one that are none. Of 64 bits hash 1 has the
 -- positions 0 and 20.
 use Rattle.std.proofs.Common.{◌∷◌, [], List, true, false, refl, arith}
-use Rattle.bloom_parts.specs.Chain.{chain}
-use Rattle.bloom_steps.specs.Vocabulary.{Or, Insert, Running, Answer}
-use Rattle.bloom_steps.specs.Scripts.{Taken, IsScript}
+use Rattle.bloom_steps.proofs.Common.{chain, Or, Insert, Running, Answer, Taken, IsScript}
 use Rattle.bloom_steps.proofs.StepFacts.Members.{each-member, took}
 use Rattle.bloom_steps.proofs.StepLemmas.Finding.{ends-off}
 

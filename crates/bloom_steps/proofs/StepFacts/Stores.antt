@@ -1,26 +1,27 @@
 -- What a step finds and does in memory, and what is near that and doesn't hold.
-use Rattle.std.proofs.Common.{◌≡◌, ◌∷◌, [], ℕ, None, Some, true, refl, arith, sym}
-use Rattle.bloom_parts.specs.Content.{content}
-use Rattle.bloom_steps.specs.Vocabulary.{And, Load, Or, Other, Zero, Union}
+use Rattle.std.proofs.Common.{◌≡◌, ◌∷◌, [], List, ℕ, None, Some, true, refl, arith, sym}
+use Rattle.bloom_steps.proofs.Common.{content, And, Load, Or, Other, Zero, Union, Memory, Moves, Makes, MemoryLaw, Linked, Drives, Taken, word_index}
 use Rattle.bloom_steps.specs.declared.steps.vocabulary.Step.TheVariants.{Take}
-use Rattle.bloom_steps.specs.Memories.{Memory, Moves, Makes, MemoryLaw}
-use Rattle.bloom_steps.specs.Scripts.{Linked, Drives}
-use Rattle.bloom_steps.specs.Steps.{word_index}
-use Rattle.bloom_steps.proofs.StepFacts.Pairs.{union, union-script}
-use Rattle.bloom_steps.proofs.StepLemmas.Members.{some_member}
-use Rattle.bloom_steps.proofs.StepLemmas.Whole.{answer_of-last}
+use Rattle.bloom_steps.proofs.StepFacts.Pairs.{read_write, read_write-script}
+use Rattle.bloom_steps.proofs.StepLemmas.Whole.{silent}
 
 -- one word, and one of the other filter
 abbrev pub memory : ℕ → Memory
 memory word = record { words = word ∷ []; other = 5 ∷ [] }
 
--- an or finds the word as it was, and not as it leaves it
+-- an or finds the word as it was, and not as it leaves it, and keeps the other filter's
 moves : Moves (memory 9) (Or 0 3) 9 (memory 11)
     × (Moves (memory 9) (Or 0 3) 11 (memory 11) → ⊥)
+    × (Moves (memory 9) (Or 0 3) 9 (record (memory 11) { other = 6 ∷ [] }) → ⊥)
 moves = (
   record { within = omega arith; finds = refl; writes = refl; kept = refl },
   (λ m. omega (arith, m.finds)),
+  (λ m. let kept = m.kept in cc),
 )
+
+-- a union of one word
+abbrev union : List Taken
+union = read_write 5
 
 -- the steps of a union, one after the other
 union-linked : Linked Moves (memory 0) union (memory 5)
@@ -49,15 +50,12 @@ drives : Drives Moves 1 2 Union (memory 0) (memory 5) None
 drives = (
   record {
     taken = union;
-    script = union-script;
+    script = read_write-script 2 5;
     linked = union-linked;
     answers = refl;
   },
   (λ d.
-      let count = d.script.count in
-      let last = some_member d.taken 1 (omega (arith, count)) in
-      let answer = answer_of-last d.taken 1 last.0 last.1 (sym count) in
-      let done = d.script.last 1 last.0 last.1 (sym count) in
+      let none = silent d.taken d.script.last in
       let says = d.answers in
       cc),
 )

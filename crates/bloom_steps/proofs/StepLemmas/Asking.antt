@@ -1,37 +1,11 @@
 -- What a machine's fields say of the step that comes next.
 use Rattle.std.proofs.Common.{◌%◌, ◌*◌, ◌+◌, ◌/◌, ◌<◌, ◌∙◌, ◌≡◌, ◌≤◌, Bool, List, None, Option, Some, ap, arith, false, if◌then◌else◌, inl, inr, length, refl, subst, sym, true, ℕ}
-use Rattle.std.proofs.lemmas.Option.{none-some, same_Some}
-use Rattle.bloom_steps.specs.Vocabulary.{Call, Clear, Contains, Insert, Intersect, Union, Step, And, Or, Other}
+use Rattle.bloom_steps.proofs.Common.{none-some, same_Some, Call, Clear, Contains, Insert, Intersect, Union, Step, And, Or, Other, EachPair, EachWord, LooksAt, Plan, TurnsOn, most_steps, plan_of, Machine, StandsAt, answers, asks, next_step, IsPlaced, Keeps, Taken, step_at, load_at, or_at, word_index, AnswersRight, AsksAfter, AsksRight}
 use Rattle.bloom_steps.specs.declared.steps.vocabulary.Call.TheVariants.{Take}
-use Rattle.bloom_steps.specs.Plans.{EachPair, EachWord, LooksAt, Plan, TurnsOn, most_steps, plan_of}
-use Rattle.bloom_steps.specs.declared.steps.machine.Machine.{Machine}
-use Rattle.bloom_steps.specs.Standing.{HoldsOther, StandsAt, answers, asks, next_of_pairs, next_step, IsPlaced, Keeps}
-use Rattle.bloom_steps.specs.Scripts.{Taken}
-use Rattle.bloom_steps.specs.Steps.{load_at, or_at, word_index}
-use Rattle.bloom_steps.specs.Machines.{AnswersRight, AsksAfter, AsksRight}
 use Rattle.bloom_steps.proofs.StepLemmas.Completing.{finish}
 use Rattle.bloom_steps.proofs.StepLemmas.Going.{is_next}
-use Rattle.bloom_steps.proofs.StepLemmas.Growing.{FitsNext, IsNextOfPairs}
+use Rattle.bloom_steps.proofs.StepLemmas.Growing.{FitsNext}
 use Rattle.bloom_steps.proofs.StepLemmas.Whole.{answer_of-beginning, not_both}
-
--- whether a number is even, and its half
-half-even : (n i : ℕ) → n ≡ 2 * i → (n % 2 ≡ 0) × (n / 2 ≡ i)
-half-even n i e = (omega arith, omega arith)
-
--- whether a number is odd, and its half
-half-odd : (n i : ℕ) → n ≡ 2 * i + 1 → (n % 2 ≡ 1) × (n / 2 ≡ i)
-half-odd n i e = (omega arith, omega arith)
-
--- the step that a machine holds for a plan of pairs comes next
-pair_fits : (op : ℕ → ℕ → Step) (m : Machine) (s : List Taken) → m.turn ≡ length s → HoldsOther m s
-    → IsNextOfPairs op s (next_of_pairs op m)
-pair_fits op m s turn holds = (
-  (λ i e. let half = half-even m.turn i (turn ∙ e) in
-      rw half.0 (ap Other half.1)),
-  (λ i t e g. let half = half-odd m.turn i (turn ∙ e) in
-      let found = holds i t e g in
-      rw half.0 (ap (λ j. op j m.other) half.1 ∙ ap (λ x. op i x) found)),
-)
 
 -- a step of a pair is on its word
 pair_on_word : (first : Bool) (op : ℕ → ℕ → Step) (i x n : ℕ) → word_index (op i x) ≡ i → i < n
@@ -49,10 +23,9 @@ on_word m call is going = go call (subst (λ c. m.turn < most_steps m.num_words 
         → word_index (next_step (plan_of call) m) < m.num_words
     go (Insert hash) room = omega (arith, m.within)
     go (Contains hash) room = omega (arith, m.within)
-    go Clear room = room
     go Union room = pair_on_word _ Or (m.turn / 2) m.other _ refl (omega (arith, room))
     go Intersect room = pair_on_word _ And (m.turn / 2) m.other _ refl (omega (arith, room))
-    go Take room = room
+    go call room = room
 
 -- a machine and the steps so far
 module _ (m : Machine) (w k : ℕ) where
@@ -62,7 +35,9 @@ module _ (m : Machine) (w k : ℕ) where
   fits_now (TurnsOn h) s turn placed keeps = ap or_at placed.here
   fits_now (LooksAt h) s turn placed keeps = ap load_at placed.here
   fits_now (EachWord op) s turn placed keeps = ap op turn
-  fits_now (EachPair op on) s turn placed keeps = pair_fits op m s turn keeps
+  fits_now (EachPair op on) s turn placed keeps =
+      ap (λ n. step_at w (EachPair op on) n m.other) turn
+      ∙ ap (step_at w (EachPair op on) (length s)) keeps
 
   -- where a step is asked for the call goes on, and the step is the next
   pub fits_asked : (call : Call) (s : List Taken) (step : Step) → StandsAt m w k call s

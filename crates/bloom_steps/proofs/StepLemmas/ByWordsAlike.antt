@@ -1,7 +1,6 @@
 -- Scripts of an insert by words, for sets that are alike.
 use Rattle.std.proofs.Common.{◌∙◌, ◌≡◌, ◌↔◌, Bool, List, false, sym, ℕ}
-use Rattle.bloom_steps.specs.ByWords.{Lacks, SetsByWords}
-use Rattle.bloom_steps.specs.Scripts.{Any, Taken}
+use Rattle.bloom_steps.proofs.Common.{Lacks, SetsByWords, Any, Taken}
 
 -- two sets that are alike
 module _ (A B : ℕ → Bool) (same : (p : ℕ) → A p ≡ B p) where

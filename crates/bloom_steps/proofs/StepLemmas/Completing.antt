@@ -1,15 +1,7 @@
 -- A call that goes on can be brought to its end, so its steps so far are a beginning.
 use Rattle.std.proofs.Common.{[], ◌*◌, ◌++◌, ◌+◌, ◌-◌, ◌∷◌, ◌≡◌, ◌⊎◌, List, append_assoc, arith, false, inl, inr, length, refl, subst, suc, zero, ℕ}
-use Rattle.bloom_parts.specs.Content.{bit_is_on}
-use Rattle.bloom_parts.specs.Places.{place}
-use Rattle.bloom_parts.proofs.PublishedLemmas.{bit_is_on-zero}
-use Rattle.bloom_steps.specs.Vocabulary.{Call, End, Answer, Done, Running, Step}
-use Rattle.bloom_steps.specs.Plans.{EachPair, EachWord, LooksAt, Plan, TurnsOn, plan_of}
-use Rattle.bloom_steps.specs.Standing.{GoesOn}
-use Rattle.bloom_steps.specs.Plans.{most_steps}
-use Rattle.bloom_steps.specs.Scripts.{IsBeginning, Taken, Fulfils}
+use Rattle.bloom_steps.proofs.Common.{bit_is_on, place, bit_is_on-zero, Call, End, Answer, Done, Running, Step, EachPair, EachWord, LooksAt, Plan, TurnsOn, plan_of, GoesOn, most_steps, IsBeginning, Taken, Fulfils, last_found, step_at}
 use Rattle.bloom_steps.proofs.StepLemmas.Finding.{ends-off}
-use Rattle.bloom_steps.proofs.StepLemmas.Going.{some_step}
 use Rattle.bloom_steps.proofs.StepLemmas.Growing.{EndsNext, FitsNext, KeepsOnAt, goes_on-more, length-more, script-more}
 use Rattle.bloom_steps.proofs.StepLemmas.Members.{member-seam}
 
@@ -38,17 +30,14 @@ last_end w k (TurnsOn h) s step e =
     bit_is_on-zero (place (64 * w) h (length s)) in
     (Answer false, (e, ends-off w h (s ++ t ∷ []) (length s) t (member-seam s [] t) off))
 last_end w k (LooksAt h) s step e = (_, (inr e, refl))
-last_end w k (EachWord op) s step e = (Done, (e, refl))
-last_end w k (EachPair op on) s step e = (Done, (e, refl))
+last_end w k plan s step e = (Done, (e, refl))
 
 -- a step that finds 0 either leaves the plan running or ends it
 either : (w k : ℕ) (plan : Plan) (s : List Taken) (step : Step)
     → KeepsOnAt w plan s (record { step = step; found = 0; ended = Running })
     ⊎ ((e : End) × EndsNext w k plan s (record { step = step; found = 0; ended = e }))
-either w k (TurnsOn h) s step = inl tt
 either w k (LooksAt h) s step = inr (_, (inl (bit_is_on-zero (place (64 * w) h (length s))), refl))
-either w k (EachWord op) s step = inl tt
-either w k (EachPair op on) s step = inl tt
+either w k plan s step = inl tt
 
 -- where a step that fits ends the plan, the steps before it can be brought to an end
 ends_now : (w k : ℕ) (plan : Plan) (s : List Taken) → GoesOn w k plan s → (step : Step)
@@ -65,19 +54,19 @@ ends_now w k plan s g step fits e ends =
 finish_in : (w k : ℕ) (plan : Plan) (n : ℕ) (s : List Taken)
     → length s + suc n ≡ most_steps w k plan → GoesOn w k plan s → CanEnd w k plan s
 finish_in w k plan zero s e g =
-    let st = some_step w plan s in
-    let last = last_end w k plan s st.0 (omega (arith, e)) in
-    ends_now w k plan s g st.0 st.1 last.0 last.1
+    let step = step_at w plan (length s) (last_found s) in
+    let last = last_end w k plan s step (omega (arith, e)) in
+    ends_now w k plan s g step refl last.0 last.1
 finish_in w k plan (suc n) s e g =
-    let st = some_step w plan s in
-    let t : Taken = record { step = st.0; found = 0; ended = Running } in
+    let step = step_at w plan (length s) (last_found s) in
+    let t : Taken = record { step = step; found = 0; ended = Running } in
     let l = length-more s t in
-    elim (either w k plan s st.0) [
+    elim (either w k plan s step) [
       | inl on ↦
           after w k plan s t
           (finish_in w k plan n (s ++ t ∷ []) (omega (arith, l, e))
-          (goes_on-more w k plan s t g st.1 refl (omega (arith, e)) on))
-      | inr last ↦ ends_now w k plan s g st.0 st.1 last.0 last.1
+          (goes_on-more w k plan s t g refl refl (omega (arith, e)) on))
+      | inr last ↦ ends_now w k plan s g step refl last.0 last.1
     ]
 
 -- the steps of a plan that goes on are a beginning

@@ -1,10 +1,6 @@
 -- What deciders, one after the other, make of a set.
 use Rattle.std.proofs.Common.{[], ◌++◌, ◌∙◌, ◌∷◌, ◌≡◌, Bool, List, ap, map, unwrap_or, ℕ}
-use Rattle.std.proofs.lemmas.List.{map-append}
-use Rattle.bloom_parts.specs.Deciders.{Decider, last_decision, state}
-use Rattle.bloom_parts.proofs.PublishedLemmas.{state-append}
-use Rattle.bloom_steps.specs.Vocabulary.{Record}
-use Rattle.bloom_steps.specs.Steps.{after_records, record_decides}
+use Rattle.bloom_steps.proofs.Common.{map-append, Decider, last_decision, state, state-append, Record, after_records, record_decides}
 
 -- the first decider can be taken into the set before
 pub state-first : (A : ℕ → Bool) (d : Decider) (ds : List Decider) (p : ℕ)

@@ -1,19 +1,11 @@
 -- Steps of each plan over a store: at the places of a hash, at each word, and in pairs.
 use Rattle.std.proofs.Common.{[], ◌*◌, ◌/◌, ◌%◌, ◌^◌, ◌++◌, ◌+◌, ◌<◌, ◌≤◌, ◌∙◌, ◌∷◌, ◌≡◌, ◌↔◌, ◌&&◌, ◌==◌, Bool, List, None, Some, ap, arith, false, true, inl, inr, length, refl, subst, sym, ℕ, slice_get}
-use Rattle.std.proofs.lemmas.Bool.{both_ways}
-use Rattle.std.specs.Int.{bit_at}
-use Rattle.std.proofs.lemmas.Option.{none-some, same_Some}
+use Rattle.bloom_steps.proofs.Common.{both_ways, bit_at, none-some, same_Some, IsAt, chain, bit_is_on, index_of, place, End, Running, Done, Answer, Step, Or, Load, Other, EachPair, EachWord, LooksAt, TurnsOn, Any, DrivesPlan, Taken, or_at, load_at}
 use Rattle.bloom_parts.specs.declared.hasher.chain.DoubleHasher.{DoubleHasher}
-use Rattle.bloom_parts.specs.Chain.{IsAt, chain}
-use Rattle.bloom_parts.specs.Content.{bit_is_on, index_of}
-use Rattle.bloom_parts.specs.Places.{place}
-use Rattle.bloom_steps.specs.Vocabulary.{End, Running, Done, Answer, Step, Or, Load, Other}
-use Rattle.bloom_steps.specs.Plans.{EachPair, EachWord, LooksAt, TurnsOn}
-use Rattle.bloom_steps.specs.Scripts.{Any, DrivesPlan, Taken}
-use Rattle.bloom_steps.specs.Steps.{or_at, load_at}
 use Rattle.bloom_steps.proofs.StepLemmas.Driving.{HasGone, KeepsNothing, gone-next, gone-none, linked-more, made}
 use Rattle.bloom_steps.proofs.StepLemmas.Finding.{all_on-more}
-use Rattle.bloom_steps.proofs.StepLemmas.Growing.{IsNextOfPairs, goes_on-more, length-more, script-more}
+use Rattle.bloom_steps.proofs.StepLemmas.Growing.{FitsNext, goes_on-more, last_found-more, length-more, script-more}
+use Rattle.bloom_steps.proofs.StepLemmas.Going.{step-even, step-odd}
 use Rattle.bloom_steps.proofs.StepLemmas.Members.{member-seam}
 use Rattle.bloom_steps.proofs.StepLemmas.Replying.{answer_of-more}
 
@@ -173,19 +165,10 @@ module _ {S : Type 0} (count : S → ℕ) (moved : S → Step → ℕ → S → 
       let turns : length s ≡ 2 * i = gone.turns in
       let t = made (Other i) x Running in
       let longer : length (s ++ t ∷ []) ≡ length s + 1 = length-more s t in
-      let first : IsNextOfPairs op s (Other i) = (
-        λ j e. let same : i ≡ j = omega (arith, turns, e) in ap Other same,
-        λ j u e got. absurd (omega (arith, turns, e)),
-      ) in
-      let second : IsNextOfPairs op (s ++ t ∷ []) step = (
-        λ j e. absurd (omega (arith, turns, longer, e)),
-        λ j u e got.
-            let same : i ≡ j = omega (arith, turns, longer, e) in
-            let there : 2 * j ≡ length s = omega (arith, turns, same) in
-            let at = subst (λ m. slice_get (s ++ t ∷ []) m ≡ Some u) there got in
-            let read_is = same_Some t u (sym (member-seam s [] t) ∙ at) in
-            is ∙ ap (λ m. op m x) same ∙ ap (λ (v : Taken). op j v.found) read_is,
-      ) in
+      let first : FitsNext w plan s (Other i) = sym (step-even w op on (length s) i _ turns) in
+      let second : FitsNext w plan (s ++ t ∷ []) step =
+      is ∙ ap (op i) (sym (last_found-more s t))
+      ∙ sym (step-odd w op on (length (s ++ t ∷ [])) i _ (omega (arith, turns, longer))) in
       let all : length (s ++ t ∷ []) + 1 ≡ 2 * (i + 1) = omega (arith, turns, longer) in
       gone-next count moved k plan KeepsNothing before mid after (s ++ t ∷ []) (2 * (i + 1)) None
       (read.words ∙ gone.words) (linked-more moved before now mid s t gone.linked read.moved)

@@ -1,11 +1,6 @@
 -- Steps of a plan over a store, one after the other, up to its last.
 use Rattle.std.proofs.Common.{[], ◌++◌, ◌+◌, ◌<◌, ◌∙◌, ◌∷◌, ◌≡◌, Bool, List, Option, arith, inl, inr, length, refl, subst, sym, ℕ}
-use Rattle.std.proofs.lemmas.Bool.{cases_lt}
-use Rattle.std.proofs.lemmas.Option.{none-some}
-use Rattle.bloom_steps.specs.Vocabulary.{End, Running, Step}
-use Rattle.bloom_steps.specs.Plans.{EachPair, EachWord, LooksAt, Plan, TurnsOn, most_steps}
-use Rattle.bloom_steps.specs.Scripts.{AreStepsOf, DrivesPlan, Fulfils, Linked, Taken, answer_of, answer_of_end}
-use Rattle.bloom_steps.specs.Standing.{GoesOn, KeepsOn}
+use Rattle.bloom_steps.proofs.Common.{cases_lt, none-some, End, Running, Step, EachPair, EachWord, LooksAt, Plan, TurnsOn, most_steps, DrivesPlan, Fulfils, Linked, Taken, answer_of, answer_of_end, GoesOn, KeepsOn}
 use Rattle.bloom_steps.proofs.StepLemmas.Growing.{EndsNext, FitsNext, KeepsOnAt, goes_on-more, length-more, script-more}
 use Rattle.bloom_steps.proofs.StepLemmas.Replying.{answer_of-more}
 
@@ -17,22 +12,10 @@ linked-more moved a b c [] t link move = (c, subst (λ x. moved x t.step t.found
 linked-more moved a b c (u ∷ us) t link move =
     (link.0, link.1, linked-more moved link.0 b c us t link.2 move)
 
--- no steps are right of every plan
-none-right : (w : ℕ) (plan : Plan) → AreStepsOf w plan []
-none-right w (TurnsOn h) = λ i t got. absurd (none-some t got)
-none-right w (LooksAt h) = λ i t got. absurd (none-some t got)
-none-right w (EachWord op) = λ i t got. absurd (none-some t got)
-none-right w (EachPair op on) = record {
-  loads = λ i t got. absurd (none-some t got);
-  writes = λ i t u got. absurd (none-some t got);
-}
-
 -- no steps give no reason to stop
 none-keeps : (w : ℕ) (plan : Plan) → KeepsOn w plan []
-none-keeps w (TurnsOn h) = tt
 none-keeps w (LooksAt h) = λ i t got. absurd (none-some t got)
-none-keeps w (EachWord op) = tt
-none-keeps w (EachPair op on) = tt
+none-keeps w plan = tt
 
 -- a step that was made, with how the call stood after it
 abbrev pub made : Step → ℕ → End → Taken
@@ -65,7 +48,7 @@ module _ {S : Type 0} (count : S → ℕ) (moved : S → Step → ℕ → S → 
       keeps = empty;
       goes_on = λ room. record {
         room = room;
-        steps = none-right (count store) plan;
+        steps = λ i t got. absurd (none-some t got);
         keeps_on = none-keeps (count store) plan;
         running = λ i t got. absurd (none-some t got);
       };

@@ -1,11 +1,6 @@
 -- What some steps found, and one step more.
 use Rattle.std.proofs.Common.{[], ◌&&◌, ◌*◌, ◌++◌, ◌↔◌, ◌∙◌, ◌∷◌, ◌≡◌, ◌⊎◌, Bool, List, Some, ap, false, inl, inr, length, refl, slice_get, subst, true, ℕ}
-use Rattle.std.proofs.lemmas.Bool.{both_ways}
-use Rattle.bloom_parts.specs.Content.{bit_is_on}
-use Rattle.bloom_parts.specs.Places.{place}
-use Rattle.bloom_steps.specs.Vocabulary.{Answer}
-use Rattle.bloom_steps.specs.Plans.{TurnsOn}
-use Rattle.bloom_steps.specs.Scripts.{Any, IsLastEnd, Taken}
+use Rattle.bloom_steps.proofs.Common.{both_ways, bit_is_on, place, Answer, TurnsOn, Any, IsLastEnd, Taken}
 use Rattle.bloom_steps.proofs.StepLemmas.Members.{member-front, member-seam, member_of_more}
 
 -- what some step has, some of more have

@@ -1,23 +1,15 @@
 -- The bits of a word and of a mask.
 use Rattle.std.proofs.Common.{◌&&◌, ◌<◌, ◌^◌, ◌∙◌, ◌≡◌, ◌≢◌, ◌≤◌, ◌⊎◌, ◌↔◌, Bool, ap, arith, bit_and, eq-eqb, false, inl, inr, min, nat_eq, not, refl, suc, sym, true, zero, ℕ}
-use Rattle.std.specs.Int.{bit_at}
-use Rattle.std.proofs.lemmas.Bool.{and_parts, both_ways, cases_lt, eqb-true}
+use Rattle.bloom_steps.proofs.Common.{bit_at, and_parts, both_ways, cases_lt, eqb-false, eqb-true, not-true, HasAll}
 use Rattle.std.proofs.lemmas.Nat.Bits.{bit_at-lt, bit_at-zero, bit_at_and, same_from_bits_below}
-use Rattle.bloom_steps.specs.ByWords.{HasAll}
 
 -- the lesser of two digits is the second, where that one asks for the first
 lesser-second : (d e : ℕ) → d < 2 → e < 2 → (e ≡ 1 → d ≡ 1) → min d e ≡ e
-lesser-second zero zero p q from = refl
-lesser-second (suc zero) zero p q from = refl
-lesser-second d (suc zero) p q from = ap (λ c. min c 1) (from refl)
-lesser-second (suc (suc d)) zero p q from = absurd (omega arith)
-lesser-second d (suc (suc e)) p q from = absurd (omega arith)
+lesser-second d e p q from = grind arith
 
 -- the lesser of a digit and 1 is the digit
 lesser : (d : ℕ) → d < 2 → min d 1 ≡ d
-lesser zero small = refl
-lesser (suc zero) small = refl
-lesser (suc (suc d)) small = absurd (omega arith)
+lesser d small = omega arith
 
 -- the `&` with a mask is the mask exactly if all of its bits are set
 pub has-all : (word mask : ℕ) → mask < 2 ^ 64 → bit_and word mask ≤ mask
@@ -52,9 +44,7 @@ some-below test (suc n) = here (some-below test n) (test n) refl
 
 -- a digit that isn't 1 is 0
 digit-zero : (d : ℕ) → d < 2 → nat_eq d 1 ≡ false → d ≡ 0
-digit-zero zero small off = refl
-digit-zero (suc zero) small off = absurd (both_ways true off refl)
-digit-zero (suc (suc d)) small off = absurd (omega arith)
+digit-zero d small off = let apart = eqb-false d 1 off in omega arith
 
 -- a mask that isn't 0 has a bit
 pub some-bit : (mask : ℕ) → mask < 2 ^ 64 → mask ≢ 0
@@ -72,17 +62,13 @@ lacks-bit word mask not_all =
     elim (some-below (λ b. nat_eq (bit_at mask b) 1 && not (nat_eq (bit_at word b) 1)) 64) [
       | inl (b, below, on) ↦
           let parts = and_parts (nat_eq (bit_at mask b) 1) (not (nat_eq (bit_at word b) 1)) on in
-          (b, below, parts.0, off (nat_eq (bit_at word b) 1) parts.1)
+          (b, below, parts.0, not-true (nat_eq (bit_at word b) 1) parts.1)
       | inr none ↦ absurd (not_all (λ b below on.
           eqb-true (bit_at word b) 1
           (has (nat_eq (bit_at mask b) 1) (nat_eq (bit_at word b) 1)
           (eq-eqb (bit_at mask b) 1 on) (none b below))))
     ]
   where
-    off : (x : Bool) → not x ≡ true → x ≡ false
-    off true e = absurd (both_ways false refl e)
-    off false e = refl
-
     has : (m x : Bool) → m ≡ true → (m && not x) ≡ false → x ≡ true
     has m true on none = refl
     has true false on none = absurd (both_ways true none refl)

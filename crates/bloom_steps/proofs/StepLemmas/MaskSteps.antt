@@ -1,11 +1,6 @@
 -- One step that sets a mask of masks: it sets its part of their bits, and what it found of them.
 use Rattle.std.proofs.Common.{◌%◌, ◌*◌, ◌+◌, ◌/◌, ◌<◌, ◌^◌, ◌∙◌, ◌≡◌, ◌≢◌, ◌↔◌, Bool, List, ap, arith, eq-eqb, false, inl, inr, length, nat_eq, refl, slice_index, sym, true, ℕ}
-use Rattle.std.specs.Int.{bit_at}
-use Rattle.std.proofs.lemmas.Bool.{both_ways, cases_lt, eqb-true}
-use Rattle.bloom_parts.specs.Content.{bit_is_on, content}
-use Rattle.bloom_parts.proofs.PublishedLemmas.{content-past}
-use Rattle.bloom_steps.specs.Vocabulary.{End, Or}
-use Rattle.bloom_steps.specs.ByWords.{HasAll, IsThere, Lacks, SetsItsPart}
+use Rattle.bloom_steps.proofs.Common.{bit_at, both_ways, cases_lt, eqb-true, bit_is_on, content, content-past, End, Or, HasAll, IsThere, Lacks, SetsItsPart}
 use Rattle.bloom_steps.proofs.StepLemmas.Driving.{made}
 use Rattle.bloom_steps.proofs.StepLemmas.Writing.{content-word}
 use Rattle.bloom_steps.proofs.StepLemmas.MaskBits.{lacks-bit, some-bit}

@@ -1,15 +1,9 @@
 -- Masks set in a store, each by one step.
 use Rattle.std.proofs.Common.{[], ◌&&◌, ◌++◌, ◌+◌, ◌/◌, ◌<◌, ◌^◌, ◌∙◌, ◌∷◌, ◌≡◌, ◌≢◌, ◌≤◌, ◌↔◌, Bool, List, Some, ap, arith, false, inl, inr, length, refl, slice_get, slice_index, subst, sym, true, ℕ}
-use Rattle.std.proofs.lemmas.Bool.{both_ways, cases_lt}
-use Rattle.std.proofs.lemmas.Option.{none-some, slice_get_within}
-use Rattle.bloom_parts.specs.Content.{bit_is_on, content}
-use Rattle.bloom_parts.proofs.PublishedLemmas.{bit_is_on-zero}
-use Rattle.bloom_steps.specs.Vocabulary.{End, Answer, Running, Step, Or}
-use Rattle.bloom_steps.specs.ByWords.{DrivesByWords, HasAll, Lacks, SetsItsPart, SetsMask}
-use Rattle.bloom_steps.specs.Scripts.{AllButLast, Any, Each, Last, Linked, Taken}
-use Rattle.bloom_steps.specs.Steps.{word_index}
+use Rattle.std.proofs.Math.Bool.{and-true}
+use Rattle.bloom_steps.proofs.Common.{and_right, both_ways, cases_lt, none-some, slice_get_within, bit_is_on, content, bit_is_on-zero, End, Answer, Running, Step, Or, DrivesByWords, HasAll, Lacks, SetsItsPart, SetsMask, AllButLast, Any, Each, Last, Linked, Taken, word_index}
 use Rattle.bloom_steps.proofs.StepLemmas.Driving.{linked-more, made}
-use Rattle.bloom_steps.proofs.StepLemmas.Growing.{each-more, length-more}
+use Rattle.bloom_steps.proofs.StepLemmas.Growing.{but_last-more, each-more, last_step-more}
 use Rattle.bloom_steps.proofs.StepLemmas.Members.{member-front, member-seam, member_of_more}
 use Rattle.bloom_steps.proofs.StepLemmas.Writing.{content-word}
 use Rattle.bloom_steps.proofs.StepLemmas.MaskSteps.{its-part, its-reply}
@@ -82,7 +76,6 @@ module _ {S : Type 0} (moved : S → Step → ℕ → S → Type 0) (masks : Lis
     masked-step end done =
         let t = made (Or i mask) found end in
         let s = done.taken in
-        let l = length-more s t in
         record {
           taken = s ++ t ∷ [];
           linked = linked-more moved before now after s t done.linked did;
@@ -111,14 +104,8 @@ module _ {S : Type 0} (moved : S → Step → ℕ → S → Type 0) (masks : Lis
                 (j, u, member-front s (t ∷ []) u j got, word)
             | inr late ↦ (length s, t, member-seam s [] t, omega (arith, less, late))
           ];
-          running = λ j u got short. elim (member_of_more s t u j got) [
-            | inl (first, one) ↦ ran j u one
-            | inr (at_end, is) ↦ absurd (omega (arith, l, short, at_end))
-          ];
-          last = λ j u got closes. elim (member_of_more s t u j got) [
-            | inl (first, one) ↦ absurd (omega (arith, l, closes, first))
-            | inr (at_end, is) ↦ ap (λ (x : Taken). x.ended) is
-          ];
+          running = but_last-more s t (λ j u. u.ended ≡ Running) ran;
+          last = last_step-more s t (λ j u. u.ended ≡ end) refl;
           tells = ((λ off. which all refl off), (λ lacks. found-off lacks));
         }
       where
@@ -145,17 +132,13 @@ module _ {S : Type 0} (moved : S → Step → ℕ → S → Type 0) (masks : Lis
           (its-reply masks i on found whole end).0 (sym (ap (λ b. b && on) is) ∙ off),
         )
 
-        second : (x y : Bool) → y ≡ false → (x && y) ≡ false
-        second true y e = e
-        second false y e = refl
-
         found-off : Any (done.taken ++ made (Or i mask) found end ∷ []) (λ j u. Lacks A u)
             → (all && on) ≡ false
         found-off (j, u, got, lacks) =
             elim (member_of_more done.taken (made (Or i mask) found end) u j got) [
               | inl (first, one) ↦ ap (λ b. b && on) (done.tells.1 (j, u, one, lacks))
               | inr (at_end, is) ↦
-                  second all on
+                  and_right all on
                   ((its-reply masks i on found whole end).1 (subst (λ x. Lacks A x) is lacks))
             ]
 
@@ -170,10 +153,6 @@ module _ {S : Type 0} (moved : S → Step → ℕ → S → Type 0) (masks : Lis
       (subst (λ b. HasMasked before now (i + 1) b end)
       (sym (ap (λ b. all && b) all_on ∙ and-true all))
       (masked-skip before now i all end empty (done end)))
-    where
-      and-true : (x : Bool) → (x && true) ≡ x
-      and-true true = refl
-      and-true false = refl
   masked-more range before now after i all on within (inr (some, (found, did, whole))) done end =
       masked-step range before now after i within all on some found did whole end (done Running)
 

@@ -1,13 +1,7 @@
 -- What the steps of a plan decide.
 use Rattle.std.proofs.Common.{◌/◌, ◌≡◌, ◌∙◌, ◌⊎◌, [], Bool, ap, inl, inr, None, Option, Some, false, if◌then◌else◌, nat_eq, not, ◌&&◌, refl, true, ℕ}
-use Rattle.std.proofs.lemmas.Bool.{both_ways}
-use Rattle.bloom_parts.specs.Content.{bit_is_on}
-use Rattle.bloom_steps.specs.Vocabulary.{Call, Clear, Contains, Insert, Intersect, Union, Step, And, Or}
+use Rattle.bloom_steps.proofs.Common.{both_ways, bit_is_on, Call, Clear, Contains, Insert, Intersect, Union, Step, And, Or, adds_or_takes, EachPair, EachWord, LooksAt, Plan, TurnsOn, goes_by_hash, plan_of, turns_none_off, found_in_other, step_decides}
 use Rattle.bloom_steps.specs.declared.steps.vocabulary.Call.TheVariants.{Take}
-use Rattle.bloom_steps.specs.Interleavings.{adds_or_takes}
-use Rattle.bloom_steps.specs.Plans.{EachPair, EachWord, LooksAt, Plan, TurnsOn, goes_by_hash, plan_of, turns_none_off}
-use Rattle.bloom_steps.specs.Sequences.{found_in_other}
-use Rattle.bloom_steps.specs.Steps.{step_decides}
 
 -- what a step that sets bits, or else clears them, makes of a bit of the word that it was given
 abbrev pub made : Bool → Bool → Option Bool
@@ -58,10 +52,9 @@ by-and i x q = go (nat_eq (q / 64) i) (bit_is_on x q)
 pub plan_decides : (call : Call) → PlanDecides (plan_of call)
 plan_decides (Insert h) = tt
 plan_decides (Contains h) = tt
-plan_decides Clear = λ i q. refl
 plan_decides Union = (by-or, (λ i x found. refl))
 plan_decides Intersect = (by-and, (λ i x found. refl))
-plan_decides Take = λ i q. refl
+plan_decides call = λ i q. refl
 
 -- an operation that sets bits makes no other decision
 pub on-only : (op : ℕ → ℕ → Step) (on : Bool) → TurnsBy op on → on ≡ true → (i x q : ℕ)
@@ -83,10 +76,8 @@ on-only op on by is i x q =
 
 -- a plan that goes by a hash clears nothing
 pub hash-grows : (plan : Plan) → goes_by_hash plan ≡ true → turns_none_off plan ≡ true
-hash-grows (TurnsOn h) e = refl
-hash-grows (LooksAt h) e = refl
-hash-grows (EachWord op) e = e
 hash-grows (EachPair op on) e = absurd (both_ways false refl e)
+hash-grows plan e = e
 
 -- a call that goes by a hash is an insert or a look-up
 pub hash-adds : (call : Call) → goes_by_hash (plan_of call) ≡ true → adds_or_takes call ≡ true

@@ -1,31 +1,9 @@
 -- How a machine that was replied stands one step further on.
 use Rattle.bloom_steps.proofs.StepLemmas.Finding.{all_on-more}
 use Rattle.std.proofs.Common.{[], ◌&&◌, ◌*◌, ◌++◌, ◌+◌, ◌<◌, ◌||◌, ◌∙◌, ◌∷◌, ◌≡◌, ◌≢◌, ◌⊎◌, Bool, List, None, Some, ap, arith, eq-eqb, false, if◌then◌else◌, inl, inr, length, nat_eq, not, refl, subst, sym, true, ℕ}
-use Rattle.std.proofs.lemmas.Bool.{both_ways, eqb-true}
-use Rattle.bloom_parts.specs.Content.{bit_is_on}
-use Rattle.bloom_parts.specs.Places.{place}
-use Rattle.bloom_steps.specs.Vocabulary.{Call, Answer, Running, Step}
-use Rattle.bloom_steps.specs.Plans.{EachPair, EachWord, LooksAt, Plan, TurnsOn, plan_of}
-use Rattle.bloom_steps.specs.declared.steps.machine.Machine.{Machine}
-use Rattle.bloom_steps.specs.Standing.{HoldsOther, IsAtPlace, IsPlaced, Keeps, StandsAt, answer_by, asks, end_by, end_of}
-use Rattle.bloom_steps.specs.Plans.{most_steps}
-use Rattle.bloom_steps.specs.Scripts.{Taken, answer_of, answer_of_end}
-use Rattle.bloom_steps.specs.Standing.{Learns, MovesOn, Replied, ends_with}
-use Rattle.bloom_steps.specs.Machines.{StandsFurther}
+use Rattle.bloom_steps.proofs.Common.{both_ways, eqb-true, bit_is_on, place, Call, Answer, Running, Step, EachPair, EachWord, LooksAt, Plan, TurnsOn, plan_of, Machine, IsAtPlace, IsPlaced, Keeps, StandsAt, answer_by, asks, end_by, end_of, most_steps, Taken, answer_of, answer_of_end, Learns, MovesOn, Replied, ends_with, StandsFurther}
 use Rattle.bloom_steps.proofs.StepLemmas.Asking.{fits_asked}
-use Rattle.bloom_steps.proofs.StepLemmas.Growing.{EndsNext, KeepsOnAt, goes_on-more, length-more, script-more}
-use Rattle.bloom_steps.proofs.StepLemmas.Members.{member-seam, member_of_more}
-use Rattle.bloom_steps.proofs.StepLemmas.Whole.{answer_of-last}
-
--- a machine that holds what was found holds it for the write
-holds_other-more : (n : Machine) (s : List Taken) (t : Taken) → n.other ≡ t.found
-    → HoldsOther n (s ++ t ∷ [])
-holds_other-more n s t e i u l g =
-    let more = length-more s t in
-    elim (member_of_more s t u (2 * i) g) [
-      | inl p ↦ absurd (omega (arith, more, l, p.0))
-      | inr q ↦ e ∙ ap (λ (v : Taken). v.found) (sym q.1)
-    ]
+use Rattle.bloom_steps.proofs.StepLemmas.Growing.{EndsNext, KeepsOnAt, goes_on-more, last_found-more, length-more, script-more}
 
 -- numbers that a test tells apart differ
 not_yet : (a b : ℕ) → nat_eq a b ≡ false → a ≢ b
@@ -33,9 +11,9 @@ not_yet a b off e = let on : nat_eq a b ≡ true = eq-eqb a b e in cc
 
 -- steps answer what the last does
 pub answer_of-more : (s : List Taken) (t : Taken) → answer_of (s ++ t ∷ []) ≡ answer_of_end t.ended
-answer_of-more s t =
-    let longer = length-more s t in
-    answer_of-last (s ++ t ∷ []) (length s) t (member-seam s [] t) (sym longer)
+answer_of-more [] t = refl
+answer_of-more (u ∷ []) t = refl
+answer_of-more (u ∷ (v ∷ s)) t = answer_of-more (v ∷ s) t
 
 -- the end of a plan answers what the machine does
 answer-end_of : (plan : Plan) (ended on : Bool)
@@ -44,9 +22,7 @@ answer-end_of : (plan : Plan) (ended on : Bool)
     (answer_by plan on) else Running) ≡ (if ended then answer_by plan on else None)
 answer-end_of plan false on = refl
 answer-end_of (TurnsOn h) true on = refl
-answer-end_of (LooksAt h) true on = refl
-answer-end_of (EachWord op) true on = refl
-answer-end_of (EachPair op w) true on = refl
+answer-end_of plan true on = refl
 
 -- how a machine's fields stand to the steps of a plan
 record Stood (m : Machine) (w k : ℕ) (plan : Plan) (s : List Taken) : Type 0 where
@@ -66,8 +42,7 @@ module _ (m n : Machine) (w k : ℕ) where
       subst (λ i. IsAtPlace w h i n) (sym (length-more s t)) (on w (length s) st.words st.placed)
   placed-more (LooksAt h) s t st on =
       subst (λ i. IsAtPlace w h i n) (sym (length-more s t)) (on w (length s) st.words st.placed)
-  placed-more (EachWord op) s t st on = tt
-  placed-more (EachPair op way) s t st on = tt
+  placed-more plan s t st on = tt
 
   -- after a reply the machine keeps what was found
   keeps-more : (plan : Plan) (s : List Taken) (t : Taken) → Stood m w k plan s
@@ -76,18 +51,14 @@ module _ (m n : Machine) (w k : ℕ) where
   keeps-more (TurnsOn h) s t st a =
       all_on-more s t (λ i t. bit_is_on t.found (place (64 * w) h i)) m.all_on n.all_on st.keeps
       (a ∙ ap (λ p. m.all_on && bit_is_on t.found p) st.placed.here)
-  keeps-more (LooksAt h) s t st a = tt
-  keeps-more (EachWord op) s t st a = tt
-  keeps-more (EachPair op way) s t st a = holds_other-more n s t a
+  keeps-more (EachPair op way) s t st a = a ∙ sym (last_found-more s t)
+  keeps-more plan s t st a = tt
 
   -- where the call goes on there is room for a further step, and no reason to stop
   goes_on : (plan : Plan) (s : List Taken) (t : Taken) → Stood m w k plan s
       → n.ended ≡ ends_with plan m t.found
       → n.ended ≡ false → length s < most_steps w k plan
       → (length s + 1 < most_steps w k plan) × KeepsOnAt w plan s t
-  goes_on (TurnsOn h) s t st e going room =
-      let not_last = not_yet _ _ (sym e ∙ going) in
-      let turns = st.turns in let hashes = st.hashes in (omega arith, tt)
   goes_on (LooksAt h) s t st e going room =
       go (bit_is_on t.found m.place) (nat_eq (m.turn + 1) m.num_hashes) refl refl (sym e ∙ going)
     where
@@ -101,12 +72,12 @@ module _ (m n : Machine) (w k : ℕ) where
           let not_last = not_yet _ _ at in
           let turns = st.turns in let hashes = st.hashes in
           (omega arith, ap (λ p. bit_is_on t.found p) (sym st.placed.here) ∙ is)
-  goes_on (EachWord op) s t st e going room =
+  goes_on plan s t st e going room =
       let not_last = not_yet _ _ (sym e ∙ going) in
-      let turns = st.turns in let words = st.words in (omega arith, tt)
-  goes_on (EachPair op way) s t st e going room =
-      let not_last = not_yet _ _ (sym e ∙ going) in
-      let turns = st.turns in let words = st.words in (omega arith, tt)
+      let turns = st.turns in
+      let words = st.words in
+      let hashes = st.hashes in
+      (omega arith, tt)
 
   -- where the machine ends, it ends as its script does
   ends : (plan : Plan) (s : List Taken) (t : Taken) → Stood m w k plan s
@@ -128,10 +99,7 @@ module _ (m n : Machine) (w k : ℕ) where
           let at_last = eqb-true _ _ e in
           let turns = st.turns in let hashes = st.hashes in inr (omega arith)
       go false is e = inl (ap (λ p. bit_is_on t.found p) (sym st.placed.here) ∙ is)
-  ends (EachWord op) s t st a e over last =
-      let at_last = eqb-true _ _ (sym e ∙ over) in
-      let turns = st.turns in let words = st.words in (omega arith, last)
-  ends (EachPair op way) s t st a e over last =
+  ends plan s t st a e over last =
       let at_last = eqb-true _ _ (sym e ∙ over) in
       let turns = st.turns in let words = st.words in (omega arith, last)
 

@@ -1,14 +1,7 @@
 -- What one step does to the content of words.
 use Rattle.std.proofs.Common.{[], ◌&&◌, ◌/◌, ◌<◌, ◌∙◌, ◌∷◌, ◌≡◌, ◌≢◌, ◌||◌, Bool, List, None, Option, Some, ap, bit_and, bit_or, eq-eqb, false, get_or-set_other, get_or-set_same, if◌then◌else◌, length, map, nat_eq, not, refl, slice_index, slice_set, sym, true, unwrap_or, ℕ}
-use Rattle.std.proofs.lemmas.Bool.{both_ways, eqb-true}
-use Rattle.std.proofs.lemmas.List.{length-set}
-use Rattle.bloom_parts.specs.Content.{bit_is_on, content}
-use Rattle.bloom_parts.proofs.PublishedLemmas.{bit_is_on-and, bit_is_on-or, bit_is_on-zero}
-use Rattle.bloom_steps.specs.Vocabulary.{Step, And, Load, Or, Other, Zero}
+use Rattle.bloom_steps.proofs.Common.{both_ways, eqb-true, length-set, bit_is_on, content, bit_is_on-and, bit_is_on-or, bit_is_on-zero, Step, And, Load, Or, Other, Zero, Memory, MemoryLaw, words_after_step, Taken, step_decides, word_index}
 use Rattle.bloom_steps.specs.declared.steps.vocabulary.Step.TheVariants.{Take}
-use Rattle.bloom_steps.specs.Memories.{Memory, MemoryLaw, words_after_step}
-use Rattle.bloom_steps.specs.Scripts.{Taken}
-use Rattle.bloom_steps.specs.Steps.{step_decides, word_index}
 use Rattle.bloom_steps.proofs.StepLemmas.Deciding.{state-first, state-same}
 
 -- a bit that is or-ed is set where a decision to set it is made, and else as it was

@@ -1,6 +1,6 @@
 use Rattle.std.proofs.Common.{ℕ, None, if◌then◌else◌}
 use Rattle.bloom_steps.specs.declared.steps.vocabulary.Step.TheVariants as step
-use Rattle.bloom_steps.specs.Plans.{EachWord}
+use Rattle.bloom_steps.proofs.Common.{EachWord}
 use Rattle.bloom_steps.proofs.StepLemmas.Driving.{HasGone, KeepsNothing}
 use Rattle.bloom_steps.proofs.steps.driver.clear_each.Given as goal
 

@@ -1,6 +1,5 @@
 use Rattle.std.proofs.Common.{◌≡◌, true, Some}
-use Rattle.bloom_parts.specs.Chain.{IsAt}
-use Rattle.bloom_steps.specs.Plans.{LooksAt}
+use Rattle.bloom_steps.proofs.Common.{IsAt, LooksAt}
 use Rattle.bloom_steps.proofs.StepLemmas.Driving.{HasGone, KeepsNothing}
 use Rattle.bloom_steps.proofs.steps.driver.look_at_each.Given as goal
 

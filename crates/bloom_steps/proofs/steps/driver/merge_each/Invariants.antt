@@ -1,6 +1,6 @@
 use Rattle.std.proofs.Common.{ℕ, ◌*◌, None, if◌then◌else◌}
 use Rattle.bloom_steps.specs.declared.steps.vocabulary.Step.TheVariants as step
-use Rattle.bloom_steps.specs.Plans.{EachPair}
+use Rattle.bloom_steps.proofs.Common.{EachPair}
 use Rattle.bloom_steps.proofs.StepLemmas.Driving.{HasGone, KeepsNothing}
 use Rattle.bloom_steps.proofs.steps.driver.merge_each.Given as goal
 

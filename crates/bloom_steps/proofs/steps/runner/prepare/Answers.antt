@@ -1,5 +1,5 @@
 use Rattle.std.proofs.Common.{◌≡◌, ◌≤◌, ◌<◌, ◌^◌, ◌∙◌, sym, subst, length}
-use Rattle.bloom_steps.specs.Worlds.{IsWorld}
+use Rattle.bloom_steps.proofs.Common.{IsWorld}
 use Rattle.bloom_steps.proofs.RunLemmas.Lawful.{first_world}
 use Rattle.bloom_steps.proofs.steps.runner.prepare.Goals as goal
 
