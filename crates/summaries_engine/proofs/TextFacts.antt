@@ -76,7 +76,7 @@ tells-classic_script = (
   refl,
   refl,
   λ is.
-      let letter : ◌≡◌ {A = ℕ} 102 74 = ap (λ t. get_or t 26 0) is in
+      let letter : ◌≡◌ {A = ℕ} 74 102 = ap (λ t. get_or t 26 0) is in
       absurd (omega (arith, letter)),
 )
 
