@@ -72,67 +72,66 @@ words-length op j _ plain (one_pair _ t u rest load write more) =
     omega (arith, before, words)
 
 -- a whole list of pairs
-module _ (op : ℕ → ℕ → Step) (on : Bool) (by : TurnsBy op on) (plain : ReadsNoOther op)
-    (w : ℕ) (s : List Taken) (steps : AreStepsOf w (EachPair op on) s) (l : length s ≡ 2 * w)
-  where
-    -- the steps are pairs from word 0 on
-    from_start : PairsFrom op 0 s
-    from_start =
-        let none : (i : ℕ) → i ≡ 0 + i = λ i. omega arith in
-        pairs_from op w 0 s l (λ i t g. reads w op on s steps i t g ∙ ap Other (none i))
-        (λ i t u g f. operates w op on s steps i t u g f ∙ ap (λ j. op j t.found) (none i))
+module _ (op : ℕ → ℕ → Step) (on : Bool) (by : TurnsBy op on) (plain : ReadsNoOther op) (w : ℕ)
+    (s : List Taken) (steps : AreStepsOf w (EachPair op on) s) (l : length s ≡ 2 * w) where
+  -- the steps are pairs from word 0 on
+  from_start : PairsFrom op 0 s
+  from_start =
+      let none : (i : ℕ) → i ≡ 0 + i = λ i. omega arith in
+      pairs_from op w 0 s l (λ i t g. reads w op on s steps i t g ∙ ap Other (none i))
+      (λ i t u g f. operates w op on s steps i t u g f ∙ ap (λ j. op j t.found) (none i))
 
-    -- the bit of the other filter is that of the word which its load found
-    other-bit : (q : ℕ) (t : Taken) → slice_get s (2 * (q / 64)) ≡ Some t
-        → content (other_words s) q ≡ bit_is_on t.found q
-    other-bit q t g =
-        content-word (other_words s) (q / 64) q refl
-        ∙ ap (λ x. bit_is_on x q)
-        (get_or_from_slice_get (other_words s) (q / 64) t.found 0
-        (words-at op 0 s plain from_start (q / 64) t g))
+  -- the bit of the other filter is that of the word which its load found
+  other-bit : (q : ℕ) (t : Taken) → slice_get s (2 * (q / 64)) ≡ Some t
+      → content (other_words s) q ≡ bit_is_on t.found q
+  other-bit q t g =
+      content-word (other_words s) (q / 64) q refl
+      ∙ ap (λ x. bit_is_on x q)
+      (get_or_from_slice_get (other_words s) (q / 64) t.found 0
+      (words-at op 0 s plain from_start (q / 64) t g))
 
-    -- past the words the other filter has nothing set
-    pub other-past : (q : ℕ) → w ≤ q / 64 → content (other_words s) q ≡ false
-    other-past q past =
-        let count = words-length op 0 s plain from_start in
-        content-past (other_words s) q (omega (arith, count, l, past))
+  -- past the words the other filter has nothing set
+  pub other-past : (q : ℕ) → w ≤ q / 64 → content (other_words s) q ≡ false
+  other-past q past =
+      let count = words-length op 0 s plain from_start in
+      content-past (other_words s) q (omega (arith, count, l, past))
 
-    -- the write of a word decides as the other filter's bit says
-    write-decides : (q i : ℕ) (t u : Taken) → slice_get s (2 * i) ≡ Some t → u.step ≡ op i t.found
-        → q / 64 ≡ i
-        → step_decides u.step q ≡ made on (content (other_words s) q)
-    write-decides q i t u g e at =
-        let here : slice_get s (2 * (q / 64)) ≡ Some t = ap (λ j. slice_get s (2 * j)) at ∙ g in
-        ap (λ x. step_decides x q) e ∙ by i t.found q
-        ∙ ap (λ b. if b then made on (bit_is_on t.found q) else None) (eq-eqb _ _ at)
-        ∙ ap (made on) (sym (other-bit q t here))
+  -- the write of a word decides as the other filter's bit says
+  write-decides : (q i : ℕ) (t u : Taken) → slice_get s (2 * i) ≡ Some t → u.step ≡ op i t.found
+      → q / 64 ≡ i
+      → step_decides u.step q ≡ made on (content (other_words s) q)
+  write-decides q i t u g e at =
+      let here : slice_get s (2 * (q / 64)) ≡ Some t = ap (λ j. slice_get s (2 * j)) at ∙ g in
+      ap (λ x. step_decides x q) e ∙ by i t.found q
+      ∙ ap (λ b. if b then made on (bit_is_on t.found q) else None) (eq-eqb _ _ at)
+      ∙ ap (made on) (sym (other-bit q t here))
 
-    -- each step decides as the other filter's bit says, or nothing
-    pairs-all : (q : ℕ) → AllDecide s q (made on (content (other_words s) q))
-    pairs-all q j u g = elim (parity j) [
-      | inl even ↦
-          let here = ap (slice_get s) (sym even.1) ∙ g in
-          inl (ap (λ x. step_decides x q) (reads w op on s steps even.0 u here))
-      | inr odd ↦
-          let i = odd.0 in
-          let within = slice_get_within s j u g in
-          let there = some_member s (2 * i) (omega (arith, odd.1)) in
-          let e = operates w op on s steps i there.0 u there.1 (ap (slice_get s) (sym odd.1) ∙ g) in
-          elim (eqb_tells (q / 64) i) [
-            | inl here ↦ inr (write-decides q i there.0 u there.1 e here.1)
-            | inr other ↦
-                inl
-                (ap (λ x. step_decides x q) e ∙ by i there.0.found q
-                ∙ ap (λ b. if b then made on (bit_is_on there.0.found q) else None) other.0)
-          ]
-    ]
+  -- each step decides as the other filter's bit says, or nothing
+  pairs-all : (q : ℕ) → AllDecide s q (made on (content (other_words s) q))
+  pairs-all q j u g = elim (parity j) [
+    | inl even ↦
+        let here = ap (slice_get s) (sym even.1) ∙ g in
+        inl (ap (λ x. step_decides x q) (reads w op on s steps even.0 u here))
+    | inr odd ↦
+        let i = odd.0 in
+        let within = slice_get_within s j u g in
+        let there = some_member s (2 * i) (omega (arith, odd.1)) in
+        let e = operates w op on s steps i there.0 u there.1 (ap (slice_get s) (sym odd.1) ∙ g) in
+        elim (eqb_tells (q / 64) i) [
+          | inl here ↦ inr (write-decides q i there.0 u there.1 e here.1)
+          | inr other ↦
+              inl
+              (ap (λ x. step_decides x q) e ∙ by i there.0.found q
+              ∙ ap (λ b. if b then made on (bit_is_on there.0.found q) else None) other.0)
+        ]
+  ]
 
-    -- within the words the pair of a position's word does decide it
-    pub pairs-steps : (p : ℕ) (A : ℕ → Bool) (q : ℕ) → q / 64 < w
-        → after_records A (did p s) q ≡ unwrap_or (made on (content (other_words s) q)) (A q)
-    pairs-steps p A q inside =
-        let t = some_member s (2 * (q / 64)) (omega arith) in
-        let u = some_member s (2 * (q / 64) + 1) (omega arith) in
-        let write = operates w op on s steps (q / 64) t.0 u.0 t.1 u.1 in
-        steps-some p s A q (made on (content (other_words s) q)) (pairs-all q) (2 * (q / 64) + 1) u.0
-        u.1 (write-decides q (q / 64) t.0 u.0 t.1 write refl)
+  -- within the words the pair of a position's word does decide it
+  pub pairs-steps : (p : ℕ) (A : ℕ → Bool) (q : ℕ) → q / 64 < w
+      → after_records A (did p s) q ≡ unwrap_or (made on (content (other_words s) q)) (A q)
+  pairs-steps p A q inside =
+      let t = some_member s (2 * (q / 64)) (omega arith) in
+      let u = some_member s (2 * (q / 64) + 1) (omega arith) in
+      let write = operates w op on s steps (q / 64) t.0 u.0 t.1 u.1 in
+      steps-some p s A q (made on (content (other_words s) q)) (pairs-all q) (2 * (q / 64) + 1) u.0
+      u.1 (write-decides q (q / 64) t.0 u.0 t.1 write refl)
