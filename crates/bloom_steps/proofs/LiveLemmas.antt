@@ -1,6 +1,6 @@
 -- From the steps of a store that lends shared words to the calls on them.
-use Rattle.std.proofs.Common.{◌≡◌, ◌∙◌, ℕ, suc, ◌+◌, ◌≤◌, Bool, List, [], ◌∷◌, length, Option, Some, None, ap, refl, subst, sym, arith, slice_get}
-use Rattle.bloom_steps.proofs.Common.{none-some, SharedWords, Contains, Insert, Done, Call, EachInTurn, IsMade, Lent, MakesCallInTurn, MakesCallOn, MakesStep, WasInserted, plan_of, Taken, Each, Linked, IsScript, IsLastEnd, Drives, answer_of, answer_of_end}
+use Rattle.std.proofs.Common.{◌≡◌, ◌∙◌, ℕ, ◌≤◌, Bool, List, [], ◌∷◌, Option, Some, None, ap, refl, subst, sym, arith}
+use Rattle.bloom_steps.proofs.Common.{none-some, SharedWords, Contains, Insert, Done, Call, EachInTurn, IsMade, Lent, MakesCallInTurn, MakesCallOn, MakesStep, WasInserted, plan_of, Taken, Linked, IsScript, IsLastEnd, Drives, answer_of, answer_of_end}
 use Rattle.bloom_steps.proofs.StepLemmas.Whole.{last-of, silent}
 
 -- linked steps of a store were made, from turn to turn, on the words that it lends

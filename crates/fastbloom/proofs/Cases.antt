@@ -1,13 +1,11 @@
--- Filters and passes that the facts of this crate share, and the members of short lists.
-use Rattle.std.proofs.Common.{◌≡◌, ℕ, zero, suc, ◌/◌, ◌%◌, ◌^◌, ◌<◌, true, false, eqb, List, [], ◌∷◌, inl, inr, refl, sym, ap, ◌∙◌, subst, arith, lit<, lit≤}
+-- Filters and passes that the facts of this crate share.
+use Rattle.std.proofs.Common.{◌≡◌, ℕ, ◌/◌, ◌%◌, ◌^◌, ◌<◌, true, false, eqb, List, [], ◌∷◌, inl, inr, refl, sym, ap, ◌∙◌, arith, lit<, lit≤}
 use Rattle.std.proofs.Math.Bool.{or-false}
 use Rattle.std.proofs.lemmas.Bool.{both_ways, cases_lt, eqb-true}
-use Rattle.std.proofs.lemmas.Option.{none-some, same_Some}
 use Rattle.atomic_table.specs.Seated.{TableId}
 use Rattle.bloom_parts.specs.Content.{bit_is_on, content}
 use Rattle.bloom_parts.proofs.PublishedLemmas.{bit_is_on-mask, content-past}
 use Rattle.bloom_plain.specs.Filter.{Filter}
-use Rattle.bloom_steps.specs.Scripts.{Taken, Each}
 use Rattle.fastbloom.specs.declared.parallel.shape.Shape.{Shape}
 use Rattle.fastbloom.specs.Passes.{SeatedFilter, Sight, IsSamePass}
 use Rattle.fastbloom.specs.Sets.{set_of}
@@ -38,11 +36,6 @@ shared name words hashes = record {
   hashes = hashes;
   hasher = 7;
 }
-
--- what holds of the one member of a list holds of each
-pub only : (P : ℕ → Taken → Type 0) (t : Taken) → P 0 t → Each (t ∷ []) P
-only P t holds zero u got = subst (P 0) (same_Some t u got) holds
-only P t holds (suc i) u got = absurd (none-some u got)
 
 -- a table of this many words, told from others by its name
 abbrev pub table : ℕ → ℕ → TableId

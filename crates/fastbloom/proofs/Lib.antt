@@ -1,4 +1,3 @@
-mod CallFacts
 mod Cases
 mod DataLemmas
 mod FillFacts

@@ -1,9 +1,5 @@
--- Words that were loaded of a vector, and how many bits were set in them: cases that hold, and the
--- nearest that don't. The word 5 has two bits.
-use Rattle.std.proofs.Common.{◌≡◌, ◌≢◌, ◌∙◌, ℕ, List, [], ◌∷◌, Option, Some, IfSome, ◌≤◌, refl, sym, ap, slice_get, subst, arith, lit≤}
-use Rattle.std.proofs.lemmas.Option.{same_Some}
-use Rattle.bloom_parts.specs.Content.{content}
-use Rattle.bloom_parts.specs.Counts.{count_on}
+-- Filters by the words that were loaded of them: cases that hold, and the nearest that don't.
+use Rattle.std.proofs.Common.{◌≡◌, ◌≢◌, ◌∙◌, ℕ, List, [], ◌∷◌, Option, Some, IfSome, ◌≤◌, refl, ap, subst, arith, lit≤}
 use Rattle.bloom_parts.specs.FalsePositives.{positives_high}
 use Rattle.bloom_parts.specs.Made.{BeganWith, FoundByLoad}
 use Rattle.bloom_parts.specs.Powers.{rounded_power}
@@ -12,36 +8,8 @@ use Rattle.bloom_parts.specs.declared.math.estimate.Estimate.{Estimate}
 use Rattle.bloom_steps.specs.Loaded.{CountsLoaded, WereLoaded}
 use Rattle.fastbloom.specs.LoadedOnes.{BoundsLoaded, EstimatesLoaded}
 use Rattle.fastbloom.specs.Shared.{BeganAsLoaded, WereFoundAlike, WereFoundToDiffer}
+use Rattle.bloom_steps.proofs.LoadedFacts.{was-loaded, were-loaded}
 use Rattle.fastbloom.proofs.Cases.{shared}
-
--- the one word of a vector was loaded
-pub were-loaded : (name : ℕ) → FoundByLoad (shared name 1 1).words 0 5
-    → WereLoaded (shared name 1 1).words (5 ∷ [])
-were-loaded name made = record {
-  count = refl;
-  each = λ i within. subst
-      (λ j. (found : ℕ) × FoundByLoad (shared name 1 1).words j found
-      × (slice_get (5 ∷ []) j ≡ Some found)) (omega (arith, within)) (5, made, refl);
-}
-
--- and it is what the load found
-pub was-loaded : (name word : ℕ) → WereLoaded (shared name 1 1).words (word ∷ [])
-    → FoundByLoad (shared name 1 1).words 0 word
-was-loaded name word loaded =
-    let first = loaded.each 0 (omega arith) in
-    subst (FoundByLoad (shared name 1 1).words 0) (sym (same_Some word first.0 first.2)) first.1
-
--- as many words are loaded as a vector has, and each is one that a load found
-loaded : (FoundByLoad (shared 1 1 1).words 0 5 → WereLoaded (shared 1 1 1).words (5 ∷ []))
-    × (WereLoaded (shared 1 1 1).words (5 ∷ []) → FoundByLoad (shared 1 1 1).words 0 5)
-    × (WereLoaded (shared 1 2 1).words (5 ∷ []) → ⊥)
-    × (WereLoaded (shared 1 1 1).words (5 ∷ 6 ∷ []) → ⊥)
-loaded = (
-  were-loaded 1,
-  was-loaded 1 5,
-  λ words. omega (arith, words.count),
-  λ words. omega (arith, words.count),
-)
 
 -- a vector began with words that were loaded of another, one load for each index
 began_as_loaded : (FoundByLoad (shared 1 1 1).words 0 5 → BeganWith (shared 2 1 1).words (5 ∷ [])
@@ -98,21 +66,6 @@ differ = (
     differ = λ same. omega (arith, same);
   },
   λ is. (is.index, is.found, is.other, is.here, is.there, is.differ),
-)
-
--- the bits of 5 by themselves
-five : count_on (content (5 ∷ [])) 64 ≡ 2
-unfolding content count_on
-five = refl
-
--- where a load of the one word found 5, two bits were set, and not three
-counts : (FoundByLoad (shared 1 1 1).words 0 5 → CountsLoaded (shared 1 1 1).words 2)
-    × ((is : CountsLoaded (shared 1 1 1).words 3) → is.words ≡ 5 ∷ [] → ⊥)
-counts = (
-  λ made. record { words = 5 ∷ []; loaded = were-loaded 1 made; counted = sym five },
-  λ is words. (let counted : 3 ≡ 2 =
-      is.counted ∙ ap (λ (l : List ℕ). count_on (content l) 64) words ∙ five in
-      omega (arith, counted)),
 )
 
 -- exactly one item

@@ -1,17 +1,13 @@
 -- What contracts say of filters that threads share: cases that hold, and the nearest that don't.
 -- How many sixty-fourths of a halving one half has is a premise here; `bloom_parts` shows it.
-use Rattle.std.proofs.Common.{◌≡◌, ◌∙◌, ℕ, ◌+◌, List, [], ◌∷◌, length, get_or, map, replicate, refl, ap, sym, subst, arith, lit<}
-use Rattle.bloom_parts.specs.Made.{BeganWith, FoundBySwap, InTurn, made-in_turn}
+use Rattle.std.proofs.Common.{◌≡◌, ◌↔◌, ◌∙◌, ℕ, ◌+◌, List, [], ◌∷◌, length, replicate, refl, ap, subst, arith, lit<}
+use Rattle.bloom_parts.specs.Made.{BeganWith}
 use Rattle.bloom_parts.specs.Sizing.{IsHalvings, size_for}
 use Rattle.bloom_plain.specs.Builders.{RateStart, words_for, empty_start, sized_filter, IsSizeOf}
-use Rattle.bloom_steps.specs.declared.steps.vocabulary.Step.TheVariants.{Take}
-use Rattle.bloom_steps.specs.declared.steps.vocabulary.End.TheVariants.{Done}
-use Rattle.bloom_steps.specs.Scripts.{Each, Linked, Taken}
-use Rattle.bloom_steps.specs.LiveSteps.{IsMade, WasInserted}
-use Rattle.bloom_steps.proofs.TakenLemmas.{taken-count}
+use Rattle.bloom_steps.specs.LiveSteps.{TakesWordsOf, WereInserted}
 use Rattle.fastbloom.specs.Shared.{HasFormFor, MakesInserts, TakesWords}
 use Rattle.bloom_plain.specs.SharedFilters.{HasFormOf, HaveSameShape}
-use Rattle.fastbloom.proofs.Cases.{only, plain, shared}
+use Rattle.fastbloom.proofs.Cases.{plain, shared}
 
 -- names make no difference to the shape, and numbers of words and of hashes do
 same_shape : HaveSameShape (shared 1 2 3) (shared 4 2 3)
@@ -88,60 +84,12 @@ module _ (one : IsHalvings 1 2 64) where
 abbrev sum : ℕ → ℕ → ℕ
 sum hasher item = hasher + item
 
--- a list of two items has an insert of each, of its hash under the filter's hasher, here 7, and the
--- second begins in the turn to which the first led
-inserts : (name : ℕ) → let f = shared name 1 1 in
-    MakesInserts sum f []
-    × (WasInserted f.words 1 10 1 2 → WasInserted f.words 1 11 2 3
-    → MakesInserts sum f (3 ∷ 4 ∷ []))
-    × ((all : MakesInserts sum f (3 ∷ 4 ∷ []))
-    → (mid : ℕ) × WasInserted f.words 1 10 all.first mid × WasInserted f.words 1 11 mid all.last)
-    × ((all : MakesInserts sum f []) → all.last ≡ all.first)
-inserts name = (
-  record { first = 3; last = 3; each = refl },
-  λ one two. record { first = 1; last = 3; each = (2, one, (3, two, refl)) },
-  λ all. (let (mid, one, (last, two, end)) = all.each in
-      (mid, one, subst (WasInserted (shared name 1 1).words 1 11 mid) (sym end) two)),
-  λ all. all.each,
-)
+-- the inserts of a list of items are those of their hashes under the filter's hasher, here 7
+inserts : (name : ℕ) → MakesInserts sum (shared name 1 1) (3 ∷ 4 ∷ [])
+    ↔ WereInserted (shared name 1 1).words 1 (10 ∷ 11 ∷ [])
+inserts name = (λ is. is, λ is. is)
 
--- a take of one word gives the word that its swap found, and no fewer
-takes : (name turn next word : ℕ)
-    → (InTurn (FoundBySwap (shared name 1 1).words 0 word) turn next
-    → TakesWords (shared name 1 1) (word ∷ []))
-    × (TakesWords (shared name 1 1) (word ∷ []) → FoundBySwap (shared name 1 1).words 0 word)
-    × (TakesWords (shared name 1 1) [] → ⊥)
-takes name turn next word = (
-  λ made. record {
-    made = record {
-      taken = record { step = Take 0; found = word; ended = Done } ∷ [];
-      script = record {
-        count = refl;
-        steps = only _ _ refl;
-        stops = tt;
-        running = only _ _ (λ early. absurd (omega (arith, early)));
-        last = only _ _ (λ last. refl);
-      };
-      first = turn;
-      last = next;
-      made = (next, made, refl);
-      answers = refl;
-    };
-    found = refl;
-  },
-  λ takes. found takes.made.taken takes.made.first takes.made.last takes.found
-      takes.made.script.steps takes.made.made,
-  λ takes. (let count = taken-count _ _ _ takes in omega (arith, count)),
-)
-  where
-    found : (s : List Taken) (first last : ℕ) → word ∷ [] ≡ map (λ t. t.found) s
-        → Each s (λ i t. t.step ≡ Take i)
-        → Linked (IsMade (shared name 1 1).words (shared name 1 1).words) first s last
-        → FoundBySwap (shared name 1 1).words 0 word
-    found [] first last same steps made = absurd (omega (arith, ap length same))
-    found (t ∷ rest) first last same steps made =
-        let words = (shared name 1 1).words in
-        let is : t.found ≡ word = sym (ap (λ l. get_or l 0 0) same) in
-        subst (FoundBySwap words 0) is
-        (made-in_turn first made.0
-        (subst (λ step. IsMade words words first step t.found made.0) (steps 0 t refl) made.1))
+-- what is taken of a filter is taken of its words, by a call with its number of hashes
+takes : (words : List ℕ) → TakesWords (shared 1 2 3) words
+    ↔ TakesWordsOf (shared 1 2 3).words 3 words
+takes words = (λ is. is, λ is. is)

@@ -1,6 +1,6 @@
 -- How many positions the steps of the worked courses gain, and how many found their bit clear.
-use Rattle.std.proofs.Common.{◌≡◌, Bool, ℕ, subst, true, ◌∷◌, [], not, ◌&&◌, refl, arith, sym}
-use Rattle.bloom_steps.proofs.Common.{sum_by, content, Insert, Began, CountsGains, bits_gained, bits_new, count_below, EveryCall, Plan, TurnsOn, goes_by_hash, plan_of, Course}
+use Rattle.std.proofs.Common.{◌≡◌, ℕ, ◌∷◌, [], not, ◌&&◌, refl, arith, sym}
+use Rattle.bloom_steps.proofs.Common.{sum_by, content, CountsGains, bits_gained, bits_new, count_below, EveryCall, goes_by_hash, plan_of, Course}
 use Rattle.bloom_steps.proofs.CourseFacts.Finished.{every-call}
 use Rattle.bloom_steps.proofs.CourseFacts.Courses.{twins}
 use Rattle.bloom_steps.proofs.CourseFacts.Lawful.{lawful-twins}

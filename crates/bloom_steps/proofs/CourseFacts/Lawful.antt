@@ -1,7 +1,7 @@
 -- Worked courses that are lawful.
 use Rattle.std.proofs.Common.{◌≡◌, ◌∷◌, [], List, ℕ, zero, suc, true, false, refl, arith, sym, subst, lit<, ◌<◌, ◌^◌, ◌∙◌}
 use Rattle.std.proofs.lemmas.List.Elements.{All-cons, All-nil}
-use Rattle.bloom_steps.proofs.Common.{chain, AreWords, bit_is_on, content, place, Load, Or, Other, Insert, Contains, Union, Began, Did, Running, Done, Answer, Any, Taken, IsScript, CallAfterCall, IsLawful, no_call, begun_call, whole_call, records_of}
+use Rattle.bloom_steps.proofs.Common.{chain, AreWords, bit_is_on, content, place, Load, Or, Other, Insert, Contains, Union, Began, Did, Running, Answer, Any, Taken, IsScript, CallAfterCall, IsLawful, no_call, begun_call, whole_call, records_of}
 use Rattle.bloom_steps.proofs.StepFacts.Members.{each-member, one-step, took}
 use Rattle.bloom_steps.proofs.StepFacts.Pairs.{read_write, read_write-script}
 use Rattle.bloom_steps.proofs.StepFacts.Scripts.{insert, is_script}

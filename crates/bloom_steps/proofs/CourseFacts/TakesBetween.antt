@@ -1,6 +1,6 @@
 -- A take between the steps of an insert: it loses nothing that was set, and a clear does.
-use Rattle.bloom_steps.proofs.Common.{sum_by, chain, content, Or, Call, Insert, Running, Done, Answer, Began, Did, CallAfterCall, Course, IsLawful, no_call, records_of, whole_call, TakesLoseNothing, adds_or_takes, bits_gained, bits_new, bits_on, bits_taken, count_below, bits_of, IsScript, Taken}
-use Rattle.std.proofs.Common.{◌≡◌, ◌∷◌, [], List, ℕ, zero, suc, true, false, Some, refl, arith, sym, subst, lit<, slice_get}
+use Rattle.bloom_steps.proofs.Common.{sum_by, chain, content, Or, Insert, Running, Done, Answer, Began, Did, CallAfterCall, Course, IsLawful, no_call, records_of, whole_call, TakesLoseNothing, adds_or_takes, bits_gained, bits_new, bits_on, bits_taken, count_below, bits_of, IsScript, Taken}
+use Rattle.std.proofs.Common.{◌≡◌, ◌∷◌, [], List, ℕ, zero, suc, false, refl, arith, sym, subst, lit<}
 use Rattle.bloom_steps.specs.declared.steps.vocabulary.Step.TheVariants as step
 use Rattle.bloom_steps.specs.declared.steps.vocabulary.Call.TheVariants.{Take}
 use Rattle.bloom_steps.proofs.CourseFacts.Carrying.{carried}

@@ -1,6 +1,6 @@
 -- The answer of a whole call, alone, is its command's reply in the set before.
 use Rattle.bloom_steps.proofs.Common.{TurnsOn, both_ways, cases_lt, false_from_ne_true, true_from_ne_false, slice_get_within, bit_is_on, are_in, place, End, Call, Contains, Insert, Did, AllFoundOn, IsScript, Taken, answer_of, answer_of_end, Any, IsLastEnd, command_of, after_records, step_decides, MayFind, did, are_in-off}
-use Rattle.std.proofs.Common.{◌*◌, ◌+◌, ◌-◌, ◌∙◌, ◌≡◌, ◌≤◌, Bool, List, None, Some, add-one, ap, arith, false, inl, inr, length, refl, slice_get, subst, suc, sym, take, true, unwrap_or, zero, ℕ, ◌<◌}
+use Rattle.std.proofs.Common.{◌*◌, ◌+◌, ◌∙◌, ◌≡◌, ◌≤◌, Bool, List, None, Some, add-one, ap, arith, false, inl, inr, length, refl, slice_get, subst, suc, sym, take, true, unwrap_or, zero, ℕ, ◌<◌}
 use Rattle.bloom_parts.specs.Operations.{reply}
 use Rattle.bloom_steps.proofs.RunLemmas.CallSets.{contains-all, insert-all}
 use Rattle.bloom_steps.proofs.RunLemmas.Changes.{or_at-decides}

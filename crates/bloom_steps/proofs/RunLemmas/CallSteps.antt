@@ -1,8 +1,7 @@
 -- What the steps of one call make of a set, alone.
 use Rattle.std.proofs.Common.{[], ◌++◌, ◌+◌, ◌/◌, ◌∙◌, ◌∷◌, ◌≡◌, ◌≤◌, ◌⊎◌, Bool, List, None, Option, Some, ap, arith, false, inl, inr, length, length-append, map, refl, slice_get, subst, suc, sym, take, true, unwrap_or, zero, ℕ}
-use Rattle.bloom_steps.proofs.Common.{take-append-add, take-append-le, none-some, same_Some, slice_get_within, last_decision, Record, Step, And, Load, Or, Other, Zero, Each, Taken, after_records, record_decides, step_decides, word_index, FindsWhatIsThere, IsWordOf, MayFind, did}
+use Rattle.bloom_steps.proofs.Common.{take-append-add, take-append-le, none-some, same_Some, slice_get_within, last_decision, Record, Step, Other, Zero, Each, Taken, after_records, record_decides, step_decides, word_index, FindsWhatIsThere, IsWordOf, MayFind, did}
 use Rattle.std.specs.Option.{option_or}
-use Rattle.bloom_steps.specs.declared.steps.vocabulary.Step.TheVariants.{Take}
 use Rattle.bloom_steps.proofs.RunLemmas.Changes.{DecidesOnly}
 use Rattle.bloom_steps.proofs.StepLemmas.Deciding.{records-append}
 use Rattle.bloom_steps.proofs.StepLemmas.Members.{member-back, member-front, member_of_take}

@@ -1,8 +1,7 @@
 -- Each position is set once, and taking loses nothing, in lawful courses, also where calls have not
 -- ended.
-use Rattle.std.proofs.Common.{◌∙◌, ◌≡◌, List, Some, arith, false, inl, inr, length, refl, slice_get, sym, true, ℕ}
-use Rattle.bloom_steps.proofs.Common.{both_ways, Call, Clear, Contains, Insert, Intersect, Union, End, Record, Began, Did, Step, Course, IsLawful, CountsGains, TakesLoseNothing, adds_or_takes, bits_taken, EveryCall, goes_by_hash, plan_of, Taken}
-use Rattle.bloom_steps.specs.declared.steps.vocabulary.Call.TheVariants.{Take}
+use Rattle.std.proofs.Common.{◌≡◌, Some, arith, inl, inr, length, refl, slice_get, true, ℕ}
+use Rattle.bloom_steps.proofs.Common.{Call, End, Record, Began, Did, Step, Course, IsLawful, CountsGains, TakesLoseNothing, adds_or_takes, bits_taken, EveryCall, goes_by_hash, plan_of}
 use Rattle.bloom_steps.proofs.RunLemmas.Balances.{AddsOrLoads, AddsOrTakes, Balances, adds, stays, takes-nothing}
 use Rattle.bloom_steps.proofs.RunLemmas.Bounds.{stays_to_end}
 use Rattle.bloom_steps.proofs.RunLemmas.Changes.{moment-more}

@@ -1,8 +1,7 @@
 -- Growing runs of calls of any kind: where each step is one of an insert, a look-up or a union, the
 -- end is the start, the inserts, and what was found in the other filter.
 use Rattle.std.proofs.Common.{◌+◌, ◌/◌, ◌∙◌, ◌≡◌, ◌↔◌, ◌⊎◌, List, Some, ap, arith, false, inl, inr, refl, slice_get, subst, sym, true, ℕ}
-use Rattle.bloom_steps.proofs.Common.{both_ways, none-some, slice_get_within, content, Call, Clear, Contains, Insert, Intersect, Union, Record, Began, Did, Other, Course, IsFoundInOther, BitsTell, plan_of, turns_none_off, Taken, record_decides, step_decides}
-use Rattle.bloom_steps.specs.declared.steps.vocabulary.Call.TheVariants.{Take}
+use Rattle.bloom_steps.proofs.Common.{both_ways, none-some, slice_get_within, content, Call, Contains, Insert, Union, Record, Began, Did, Other, Course, IsFoundInOther, BitsTell, plan_of, turns_none_off, Taken, record_decides, step_decides}
 use Rattle.bloom_steps.proofs.RunLemmas.Bounds.{NoneMakesOff, stays_to_end}
 use Rattle.bloom_steps.proofs.RunLemmas.Changes.{DecidesOnly, or-decides_only}
 use Rattle.bloom_steps.proofs.RunLemmas.InsertSteps.{Sets, or-parts, or-sets, set-after}

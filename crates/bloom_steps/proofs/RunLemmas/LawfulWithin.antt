@@ -1,5 +1,5 @@
 -- In a lawful course a step that sets bits, or takes a word, does so in one of the words.
-use Rattle.std.proofs.Common.{◌*◌, ◌+◌, ◌/◌, ◌<◌, ◌∙◌, ◌≡◌, List, arith, inl, inr, length, subst, sym, true, false, ℕ}
+use Rattle.std.proofs.Common.{◌*◌, ◌+◌, ◌/◌, ◌<◌, ◌∙◌, ◌≡◌, arith, inl, inr, length, subst, sym, true, false, ℕ}
 use Rattle.bloom_steps.proofs.Common.{both_ways, cases_lt, slice_get_within, place, And, Call, Insert, Intersect, Or, Union, Course, IsLawful, moment, plan_of, Taken}
 use Rattle.bloom_steps.specs.declared.steps.vocabulary.Call.TheVariants.{Take}
 use Rattle.bloom_steps.proofs.RunLemmas.Bounds.{moment-past}

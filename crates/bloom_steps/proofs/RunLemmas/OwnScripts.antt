@@ -1,7 +1,6 @@
 -- The script that a finished call's own records make, in a lawful course.
 use Rattle.std.proofs.Common.{[], ◌++◌, ◌+◌, ◌-◌, ◌∙◌, ◌∷◌, ◌≡◌, ◌≤◌, Bool, List, Some, add-one, ap, arith, drop, inl, inr, length, refl, slice_get, suc, sym, take, zero, ℕ}
-use Rattle.bloom_steps.proofs.Common.{append-nil, drop-take, none-some, same_Some, Call, End, Record, Began, Did, Step, And, Load, Or, Other, Zero, MadeBetween, IsFinished, moment, IsBeginning, IsScript, Taken, Course, IsLawful, MayFind, did, records_of}
-use Rattle.bloom_steps.specs.declared.steps.vocabulary.Step.TheVariants.{Take}
+use Rattle.bloom_steps.proofs.Common.{append-nil, drop-take, none-some, same_Some, Call, End, Record, Began, Did, Step, Other, Zero, MadeBetween, IsFinished, moment, IsBeginning, IsScript, Taken, Course, IsLawful, MayFind, did, records_of}
 use Rattle.bloom_steps.proofs.RunLemmas.LawfulWithin.{lawful-within}
 use Rattle.bloom_steps.proofs.RunLemmas.RunningCalls.{one_end-script}
 use Rattle.bloom_steps.proofs.RunLemmas.PartyRecords.{did-got, own_of_record, records_of-append, records_of-mine}

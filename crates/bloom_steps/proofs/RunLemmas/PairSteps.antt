@@ -72,9 +72,8 @@ words-length op j _ plain (one_pair _ t u rest load write more) =
     omega (arith, before, words)
 
 -- a whole list of pairs
-module _ (op : ℕ → ℕ → Step) (on : Bool) (by : TurnsBy op on) (plain : ReadsNoOther op)
-    (w : ℕ) (s : List Taken) (steps : AreStepsOf w (EachPair op on) s) (l : length s ≡ 2 * w)
-  where
+module _ (op : ℕ → ℕ → Step) (on : Bool) (by : TurnsBy op on) (plain : ReadsNoOther op) (w : ℕ)
+    (s : List Taken) (steps : AreStepsOf w (EachPair op on) s) (l : length s ≡ 2 * w) where
   -- the steps are pairs from word 0 on
   from_start : PairsFrom op 0 s
   from_start =

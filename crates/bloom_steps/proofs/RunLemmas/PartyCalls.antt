@@ -1,5 +1,5 @@
 -- A party of a run: its machine, and its records.
-use Rattle.std.proofs.Common.{[], ◌++◌, ◌<◌, ◌∙◌, ◌∷◌, ◌≡◌, ◌≢◌, Bool, List, None, Option, Some, ap, append_assoc, false, get_or-set_other, get_or-set_same, inl, inr, length, not, refl, slice_set, subst, sym, true, ℕ}
+use Rattle.std.proofs.Common.{[], ◌++◌, ◌<◌, ◌∙◌, ◌∷◌, ◌≡◌, ◌≢◌, Bool, List, None, Option, Some, ap, append_assoc, false, get_or-set_other, get_or-set_same, inl, inr, length, refl, slice_set, subst, sym, true, ℕ}
 use Rattle.bloom_steps.proofs.Common.{not-false, eqb_tells, append-nil, slice_index_or, Record, Began, Did, Step, Machine, asks, end_of, Taken, word_index, CallAfterCall, begun_call, call_records, did, last_leaves_running, no_call, party_of, records_of, whole_call, AsksRight, StandsFurther, AreWholeCalls, HasCalled, PartyAt, slot_runs}
 use Rattle.bloom_steps.proofs.RunLemmas.RunningCalls.{newest-append, newest-call, still_runs-machine}
 use Rattle.bloom_steps.proofs.RunLemmas.PartyRecords.{did-more, records_of-more, records_of-same}

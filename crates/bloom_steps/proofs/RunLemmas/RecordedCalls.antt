@@ -1,6 +1,6 @@
 -- Each record is of a call whose script, or a beginning of it, stands among the records.
 use Rattle.bloom_steps.proofs.Common.{plan_of, none-some, same_Some, Call, End, Record, Began, Did, Step, Taken, CallAfterCall, Course, IsLawful, begun_call, did, last_leaves_running, no_call, party_of, records_of, runs, whole_call}
-use Rattle.std.proofs.Common.{[], ◌++◌, ◌+◌, ◌∙◌, ◌∷◌, ◌≡◌, ◌⊎◌, Bool, List, Some, inl, inr, length, refl, slice_get, subst, suc, sym, zero, ℕ}
+use Rattle.std.proofs.Common.{[], ◌++◌, ◌+◌, ◌∙◌, ◌∷◌, ◌≡◌, ◌⊎◌, List, Some, inl, inr, length, refl, slice_get, subst, suc, sym, zero, ℕ}
 use Rattle.bloom_steps.proofs.RunLemmas.RunningCalls.{newest-call, newest_kept, still_runs-beginning}
 use Rattle.bloom_steps.proofs.RunLemmas.PartyRecords.{did-get, own_of_record, record_of_own}
 use Rattle.bloom_steps.proofs.RunLemmas.PlacedSteps.{Holds, IsOneOf, IsPlacedAt, placed}

@@ -1,6 +1,6 @@
 -- Whether a party runs a call: its newest record.
-use Rattle.bloom_steps.proofs.Common.{plan_of, none-some, same_Some, Call, End, Answer, Done, Running, Record, Began, Did, Step, Machine, StandsAt, Each, IsBeginning, IsScript, Taken, did, last_leaves_running, leaves_running, records_of, runs}
-use Rattle.std.proofs.Common.{[], ◌++◌, ◌+◌, ◌-◌, ◌<◌, ◌∙◌, ◌∷◌, ◌≡◌, ◌≢◌, ◌≤◌, Bool, List, Some, ap, arith, false, length, not, refl, slice_get, subst, suc, sym, true, zero, ℕ}
+use Rattle.bloom_steps.proofs.Common.{plan_of, Call, End, Answer, Done, Running, Record, Began, Did, Step, Machine, StandsAt, Each, IsBeginning, IsScript, Taken, did, last_leaves_running, leaves_running, records_of, runs}
+use Rattle.std.proofs.Common.{[], ◌++◌, ◌+◌, ◌<◌, ◌∙◌, ◌∷◌, ◌≡◌, ◌≢◌, ◌≤◌, Bool, List, ap, arith, false, length, not, refl, subst, suc, sym, true, ℕ}
 use Rattle.bloom_parts.specs.Operations.{reply}
 use Rattle.bloom_steps.proofs.RunLemmas.PartyRecords.{records_of-append}
 use Rattle.bloom_steps.proofs.StepLemmas.Whole.{beginning_runs, end_after, last-not_running, last-of, script_some}

@@ -1,5 +1,5 @@
 -- What a step finds and does in memory, and what is near that and doesn't hold.
-use Rattle.std.proofs.Common.{◌≡◌, ◌∷◌, [], List, ℕ, None, Some, true, refl, arith, sym}
+use Rattle.std.proofs.Common.{◌≡◌, ◌∷◌, [], List, ℕ, None, Some, true, refl, arith}
 use Rattle.bloom_steps.proofs.Common.{content, And, Load, Or, Other, Zero, Union, Memory, Moves, Makes, MemoryLaw, Linked, Drives, Taken, word_index}
 use Rattle.bloom_steps.specs.declared.steps.vocabulary.Step.TheVariants.{Take}
 use Rattle.bloom_steps.proofs.StepFacts.Pairs.{read_write, read_write-script}

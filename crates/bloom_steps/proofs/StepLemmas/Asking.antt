@@ -1,7 +1,6 @@
 -- What a machine's fields say of the step that comes next.
-use Rattle.std.proofs.Common.{◌%◌, ◌*◌, ◌+◌, ◌/◌, ◌<◌, ◌∙◌, ◌≡◌, ◌≤◌, Bool, List, None, Option, Some, ap, arith, false, if◌then◌else◌, inl, inr, length, refl, subst, sym, true, ℕ}
-use Rattle.bloom_steps.proofs.Common.{none-some, same_Some, Call, Clear, Contains, Insert, Intersect, Union, Step, And, Or, Other, EachPair, EachWord, LooksAt, Plan, TurnsOn, most_steps, plan_of, Machine, StandsAt, answers, asks, next_step, IsPlaced, Keeps, Taken, step_at, load_at, or_at, word_index, AnswersRight, AsksAfter, AsksRight}
-use Rattle.bloom_steps.specs.declared.steps.vocabulary.Call.TheVariants.{Take}
+use Rattle.std.proofs.Common.{◌/◌, ◌<◌, ◌∙◌, ◌≡◌, ◌≤◌, Bool, List, None, Option, Some, ap, arith, false, if◌then◌else◌, inl, inr, length, refl, subst, sym, true, ℕ}
+use Rattle.bloom_steps.proofs.Common.{none-some, same_Some, Call, Contains, Insert, Intersect, Union, Step, And, Or, Other, EachPair, EachWord, LooksAt, Plan, TurnsOn, most_steps, plan_of, Machine, StandsAt, answers, asks, next_step, IsPlaced, Keeps, Taken, step_at, load_at, or_at, word_index, AnswersRight, AsksAfter, AsksRight}
 use Rattle.bloom_steps.proofs.StepLemmas.Completing.{finish}
 use Rattle.bloom_steps.proofs.StepLemmas.Going.{is_next}
 use Rattle.bloom_steps.proofs.StepLemmas.Growing.{FitsNext}

@@ -1,12 +1,11 @@
 -- Steps of each plan over a store: at the places of a hash, at each word, and in pairs.
-use Rattle.std.proofs.Common.{[], ◌*◌, ◌/◌, ◌%◌, ◌^◌, ◌++◌, ◌+◌, ◌<◌, ◌≤◌, ◌∙◌, ◌∷◌, ◌≡◌, ◌↔◌, ◌&&◌, ◌==◌, Bool, List, None, Some, ap, arith, false, true, inl, inr, length, refl, subst, sym, ℕ, slice_get}
-use Rattle.bloom_steps.proofs.Common.{both_ways, bit_at, none-some, same_Some, IsAt, chain, bit_is_on, index_of, place, End, Running, Done, Answer, Step, Or, Load, Other, EachPair, EachWord, LooksAt, TurnsOn, Any, DrivesPlan, Taken, or_at, load_at}
+use Rattle.std.proofs.Common.{[], ◌*◌, ◌/◌, ◌%◌, ◌^◌, ◌++◌, ◌+◌, ◌<◌, ◌≤◌, ◌∙◌, ◌∷◌, ◌≡◌, ◌↔◌, ◌&&◌, ◌==◌, Bool, List, None, Some, ap, arith, false, true, inl, inr, length, refl, sym, ℕ}
+use Rattle.bloom_steps.proofs.Common.{both_ways, bit_at, none-some, IsAt, chain, bit_is_on, index_of, place, End, Running, Done, Answer, Step, Or, Load, Other, EachPair, EachWord, LooksAt, TurnsOn, Any, DrivesPlan, Taken, or_at, load_at}
 use Rattle.bloom_parts.specs.declared.hasher.chain.DoubleHasher.{DoubleHasher}
 use Rattle.bloom_steps.proofs.StepLemmas.Driving.{HasGone, KeepsNothing, gone-next, gone-none, linked-more, made}
 use Rattle.bloom_steps.proofs.StepLemmas.Finding.{all_on-more}
 use Rattle.bloom_steps.proofs.StepLemmas.Growing.{FitsNext, goes_on-more, last_found-more, length-more, script-more}
 use Rattle.bloom_steps.proofs.StepLemmas.Going.{step-even, step-odd}
-use Rattle.bloom_steps.proofs.StepLemmas.Members.{member-seam}
 use Rattle.bloom_steps.proofs.StepLemmas.Replying.{answer_of-more}
 
 -- the word and the bit of a position are those of its place

@@ -1,6 +1,6 @@
 -- Steps of a plan over a store, one after the other, up to its last.
 use Rattle.std.proofs.Common.{[], ◌++◌, ◌+◌, ◌<◌, ◌∙◌, ◌∷◌, ◌≡◌, Bool, List, Option, arith, inl, inr, length, refl, subst, sym, ℕ}
-use Rattle.bloom_steps.proofs.Common.{cases_lt, none-some, End, Running, Step, EachPair, EachWord, LooksAt, Plan, TurnsOn, most_steps, DrivesPlan, Fulfils, Linked, Taken, answer_of, answer_of_end, GoesOn, KeepsOn}
+use Rattle.bloom_steps.proofs.Common.{cases_lt, none-some, End, Running, Step, LooksAt, Plan, most_steps, DrivesPlan, Fulfils, Linked, Taken, answer_of, answer_of_end, GoesOn, KeepsOn}
 use Rattle.bloom_steps.proofs.StepLemmas.Growing.{EndsNext, FitsNext, KeepsOnAt, goes_on-more, length-more, script-more}
 use Rattle.bloom_steps.proofs.StepLemmas.Replying.{answer_of-more}
 

@@ -1,7 +1,7 @@
 -- How a machine that was replied stands one step further on.
 use Rattle.bloom_steps.proofs.StepLemmas.Finding.{all_on-more}
 use Rattle.std.proofs.Common.{[], ◌&&◌, ◌*◌, ◌++◌, ◌+◌, ◌<◌, ◌||◌, ◌∙◌, ◌∷◌, ◌≡◌, ◌≢◌, ◌⊎◌, Bool, List, None, Some, ap, arith, eq-eqb, false, if◌then◌else◌, inl, inr, length, nat_eq, not, refl, subst, sym, true, ℕ}
-use Rattle.bloom_steps.proofs.Common.{both_ways, eqb-true, bit_is_on, place, Call, Answer, Running, Step, EachPair, EachWord, LooksAt, Plan, TurnsOn, plan_of, Machine, IsAtPlace, IsPlaced, Keeps, StandsAt, answer_by, asks, end_by, end_of, most_steps, Taken, answer_of, answer_of_end, Learns, MovesOn, Replied, ends_with, StandsFurther}
+use Rattle.bloom_steps.proofs.Common.{both_ways, eqb-true, bit_is_on, place, Call, Answer, Running, Step, EachPair, LooksAt, Plan, TurnsOn, plan_of, Machine, IsAtPlace, IsPlaced, Keeps, StandsAt, answer_by, asks, end_by, end_of, most_steps, Taken, answer_of, answer_of_end, Learns, MovesOn, Replied, ends_with, StandsFurther}
 use Rattle.bloom_steps.proofs.StepLemmas.Asking.{fits_asked}
 use Rattle.bloom_steps.proofs.StepLemmas.Growing.{EndsNext, KeepsOnAt, goes_on-more, last_found-more, length-more, script-more}
 

@@ -1,6 +1,6 @@
 -- Whole scripts and beginnings: a beginning runs on, a whole script has ended, so no list is both.
-use Rattle.std.proofs.Common.{[], ◌+◌, ◌-◌, ◌∙◌, ◌∷◌, ◌≡◌, ◌≢◌, ◌≤◌, List, None, Some, ap, arith, length, length-append, refl, slice_get, suc, zero, ℕ}
-use Rattle.bloom_steps.proofs.Common.{slice_get_within, Call, Done, End, Running, EachPair, EachWord, LooksAt, Plan, TurnsOn, plan_of, IsBeginning, IsLastEnd, IsScript, Last, Taken, answer_of, answer_of_end, HasCount}
+use Rattle.std.proofs.Common.{[], ◌+◌, ◌∙◌, ◌∷◌, ◌≡◌, ◌≢◌, ◌≤◌, List, None, Some, ap, arith, length, length-append, refl, slice_get, suc, ℕ}
+use Rattle.bloom_steps.proofs.Common.{slice_get_within, Call, Done, End, Running, LooksAt, Plan, TurnsOn, plan_of, IsBeginning, IsLastEnd, IsScript, Last, Taken, answer_of, answer_of_end, HasCount}
 use Rattle.bloom_steps.proofs.StepLemmas.Members.{member-front}
 
 -- how a call stands after some steps
