@@ -104,7 +104,8 @@ module _ {V : Type 0} (sieve : Ghosts V) (end : ℕ) (options : Options)
             written = run.written;
             text = Appends-kept from to kept _ run.text keeps;
             is_text =
-                from-begins fault text run.written is (to-begins first text run.written run.is_text);
+                from-begins fault text run.written is
+                (to-begins first text run.written run.is_text);
             reached =
                 reached-at end (limit_of options) fault come run.lines (writer-system fault is)
                 (first-lines end (limit_of options) first come run.lines run.reached);

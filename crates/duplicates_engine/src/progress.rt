@@ -4,9 +4,11 @@ use crate::tally::Tally;
 
 /// Is told from time to time how far a run is, and warned once where too many new lines came.
 pub trait Progress {
+    /// Is told the counts at each million lines.
     fn tell(&mut self, tally: Tally);
 
-    /// Is told that with this line there were more new lines than the most.
+    /// Is told that with this line there were more new lines than the most. At a million lines this
+    /// comes first.
     fn warn(&mut self, tally: Tally);
 }
 
