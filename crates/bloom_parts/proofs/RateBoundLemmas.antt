@@ -141,9 +141,7 @@ either-least A B (suc n) =
         × ((if b then 1 else 0) ≤ (if a || b then 1 else 0))
         × ((if a || b then 1 else 0) ≤ (if a then 1 else 0) + (if b then 1 else 0))
     one-either true true = (omega arith, omega arith, omega arith)
-    one-either true false = (omega arith, omega arith, omega arith)
-    one-either false true = (omega arith, omega arith, omega arith)
-    one-either false false = (omega arith, omega arith, omega arith)
+    one-either _ _ = (omega arith, omega arith, omega arith)
 
 -- the greater of two lower ends of parts of one is a lower end
 max-below : (a b n u one : ℕ) → a * n ≤ u * one → b * n ≤ u * one → max a b * n ≤ u * one
