@@ -9,10 +9,11 @@ use Rattle.bloom_parts.specs.Content.{content}
 use Rattle.bloom_parts.specs.Places.{IsPart, positions, are_in}
 use Rattle.bloom_blocked.specs.Blocked.{IsBlockedShape}
 use Rattle.bloom_blocked.specs.Lines.{line_of, inner_of, in_line, line_positions, are_in_line, IsLinePosition, LinePositionsLaw, LineSubsetLaw, LineRangeLaw, OneLineLaw}
-use Rattle.bloom_blocked.specs.Many.{positions_in_lines, lines_after, TellsFoundInLines, TellsNewInLines}
-use Rattle.bloom_parts.proofs.PublishedLemmas.{bits-next}
+use Rattle.bloom_parts.specs.Many.{is_new}
+use Rattle.bloom_blocked.specs.Many.{positions_in_lines, TellsFoundInLines, TellsNewInLines}
+use Rattle.bloom_parts.proofs.PublishedLemmas.{bits-next, no-bit}
 use Rattle.bloom_blocked.proofs.BitLemmas.{word-where}
-use Rattle.bloom_blocked.proofs.Cases.{greatest, with_one, no-bit}
+use Rattle.bloom_blocked.proofs.Cases.{greatest, with_one}
 
 -- three lines share the hashes by thirds
 line_of-cases : (line_of 3 6148914691236517205 ≡ 0) × (line_of 3 6148914691236517206 ≡ 1)
@@ -137,5 +138,4 @@ tells_new_in_lines-cases = (
 )
   where
     new : ℕ → Bool
-    new i = not (are_in_line 1 1 (slice_index (0 ∷ 0 ∷ []) i)
-        (lines_after 1 1 (content (0 ∷ [])) (0 ∷ 0 ∷ []) i))
+    new = is_new (line_positions 1 1) (are_in_line 1 1) (content (0 ∷ [])) (0 ∷ 0 ∷ [])
