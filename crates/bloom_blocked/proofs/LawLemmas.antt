@@ -1,5 +1,5 @@
 -- The laws of blocked filters.
-use Rattle.std.proofs.Common.{◌≡◌, ℕ, ◌/◌, Bool, ◌||◌, List, [], ◌∷◌, refl, sym, ◌∙◌, ap, subst}
+use Rattle.std.proofs.Common.{ℕ, ◌/◌, Bool, ◌||◌, List, [], ◌∷◌, refl, sym, ◌∙◌, ap, subst}
 use Rattle.std.proofs.lemmas.Bool.{or_left}
 use Rattle.std.proofs.Math.Bool.{or-false}
 use Rattle.bloom_parts.specs.Content.{content}

@@ -2,7 +2,7 @@
 -- clauses cite a case that holds and cases as near as can be that don't. A program in Python that
 -- knows the description alone made the numbers: with four hashes the greatest hash has the
 -- positions 1373, 1522, 1199 and 1082 in three lines, and hash 1 has 162, 13, 336 and 453 in one.
-use Rattle.std.proofs.Common.{◌≡◌, ◌/◌, ◌<◌, ℕ, Bool, true, false, not, [], ◌∷◌, slice_index, refl, sym, arith, lit<, lit≤}
+use Rattle.std.proofs.Common.{◌≡◌, ◌/◌, ◌<◌, ℕ, Bool, true, false, [], ◌∷◌, slice_index, refl, sym, arith, lit<, lit≤}
 use Rattle.std.proofs.lemmas.Bool.{both_ways}
 use Rattle.bloom_parts.specs.Chain.{chain}
 use Rattle.bloom_parts.specs.Content.{content}

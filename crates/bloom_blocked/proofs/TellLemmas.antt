@@ -1,5 +1,5 @@
 -- What bits tell of some of many hashes, and of those that stand at these places among all.
-use Rattle.std.proofs.Common.{◌≡◌, ◌≤◌, ◌<◌, ◌+◌, ◌-◌, ◌*◌, ◌^◌, ℕ, Bool, true, ◌||◌, ◌&&◌, ◌==◌, not, if◌then◌else◌, bit_or, min, set, List, [], ◌∷◌, length, nat_lt, get_or, slice_index, take, drop, refl, sym, ◌∙◌, ap, arith, inl, inr, length-drop}
+use Rattle.std.proofs.Common.{◌≡◌, ◌≤◌, ◌<◌, ◌+◌, ◌-◌, ◌*◌, ℕ, Bool, true, ◌&&◌, not, min, set, List, [], ◌∷◌, length, nat_lt, slice_index, take, drop, refl, sym, ◌∙◌, ap, arith, inl, inr, length-drop}
 use Rattle.std.specs.List.{list_any}
 use Rattle.std.proofs.lemmas.Bool.{cases_lt, lt-ltb, le-ltb, or_left}
 use Rattle.std.proofs.lemmas.List.{get_or-take, get_or-drop, length-take-le, take-take}

@@ -197,7 +197,11 @@ fn found_bits(words: &[u64], num_hashes: u32, hashes: &[u64], stops: bool) -> u6
     let mut found: u64 = 0;
     let mut i: usize = 0;
     'looks: for hash in hashes {
-        found = with_bit(found, i, contains_either_way(words, num_hashes, *hash, stops));
+        found = with_bit(
+            found,
+            i,
+            contains_either_way(words, num_hashes, *hash, stops),
+        );
         i += 1;
     }
     found

@@ -7,7 +7,7 @@ use Rattle.lines.proofs.WritingLemmas.{IsWriting}
 use Rattle.bloom_parts.specs.Hashed.{SipState, Hashed, Takes}
 use Rattle.bloom_parts.specs.Sip.{whole_words}
 use Rattle.bloom_files.specs.declared.error.FileError.{FileError}
-use Rattle.bloom_files.specs.declared.error.FileError.TheVariants.{NotAFilter, Version, HashCount, EmptyWords, TooManyWords, Cut, TooLong, Reserved, Blocked, NotBlocked, PartOfALine, Seal, Memory, Input}
+use Rattle.bloom_files.specs.declared.error.FileError.TheVariants.{Cut, Memory, Input}
 use Rattle.bloom_files.specs.File.{bytes_of}
 use Rattle.bloom_files.specs.FileReads.{AsksAsGiven, FailsWithin, GivesSome, ReadsWords, StopsWords}
 use Rattle.bloom_files.proofs.NumberLemmas.{bytes_of-append, length-bytes_of, length-whole_words}

@@ -1,10 +1,10 @@
 -- Files of filters read back as these filters.
-use Rattle.std.proofs.Common.{◌≡◌, ℕ, zero, suc, ◌*◌, ◌/◌, ◌^◌, ◌<◌, ◌≤◌, List, [], ◌∷◌, ◌++◌, length, drop, Some, None, refl, sym, ap, subst, ◌∙◌, arith, inl, inr, lit<}
+use Rattle.std.proofs.Common.{◌≡◌, ℕ, ◌*◌, ◌^◌, ◌<◌, ◌≤◌, List, ◌++◌, length, drop, Some, None, refl, sym, ap, subst, ◌∙◌, arith, inl, inr, lit<}
 use Rattle.std.specs.Prelude.{◌⊎◌, slice_index}
 use Rattle.std.specs.Option.{option_or}
 use Rattle.std.proofs.lemmas.Grind.{common_steps}
 use Rattle.std.proofs.lemmas.List.Elements.{All-from_recursion}
-use Rattle.bloom_parts.specs.Content.{AreWords, content}
+use Rattle.bloom_parts.specs.Content.{AreWords}
 use Rattle.bloom_parts.specs.Keys.{HasKey, key_of}
 use Rattle.bloom_parts.specs.Sip.{sip, whole_words}
 use Rattle.bloom_parts.specs.declared.hasher.CloneBuildHasher.{CloneBuildHasher}
@@ -15,7 +15,7 @@ use Rattle.bloom_files.specs.declared.head.Head.{Head}
 use Rattle.bloom_files.specs.declared.layout.Layout.{Layout}
 use Rattle.bloom_files.specs.declared.layout.Layout.TheVariants.{Whole, Lines}
 use Rattle.bloom_plain.specs.Data.{DefaultFilter}
-use Rattle.bloom_files.specs.File.{bytes_of, head_of, mark}
+use Rattle.bloom_files.specs.File.{bytes_of, head_of}
 use Rattle.bloom_files.specs.FileLayouts.{AreWhole, IsFileIn, layout_number, layout_refusal, numbers_in, refusal_in, right_seal, sealed_bytes}
 use Rattle.bloom_files.specs.FileRefusals.{head_refusal, number_at, wrong_seal}
 use Rattle.bloom_files.specs.FilterFiles.{BlockedRefusedLaw, FileLaw, IsFileOf, NotBlockedRefusedLaw, ReadableLaw, SameFileItemsLaw, placement_in}
@@ -56,9 +56,16 @@ module _ (layout : Layout) (bytes : List ℕ) (head : Head) (words : List ℕ)
 
   head-fits : AreWords (numbers_in layout head is.seal)
   head-fits =
-      All-from_recursion (λ n. n < 2 ^ 64) (numbers_in layout head is.seal)
-      (lit< tt, (omega (arith, is.shape.few_hashes), (omega (arith, is.shape.few_words, is.count),
-      (low, (high, (is.narrow, (layout-fits layout, (lit< tt, tt))))))))
+      All-from_recursion (λ n. n < 2 ^ 64) (numbers_in layout head is.seal) (
+        lit< tt,
+        (
+          omega (arith, is.shape.few_hashes),
+          (
+            omega (arith, is.shape.few_words, is.count),
+            (low, (high, (is.narrow, (layout-fits layout, (lit< tt, tt))))),
+          ),
+        ),
+      )
 
   -- the numbers of the file are those of its head, and the words
   numbers-of : whole_words bytes ≡ numbers_in layout head is.seal ++ words

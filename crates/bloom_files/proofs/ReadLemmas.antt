@@ -7,7 +7,7 @@ use Rattle.std.proofs.KnownBytes.{Consumes-trans, Consumes-whole}
 use Rattle.bloom_parts.specs.Hashed.{SipState, Hashed, Answers}
 use Rattle.bloom_parts.specs.Sip.{sip}
 use Rattle.bloom_files.specs.declared.error.FileError.{FileError}
-use Rattle.bloom_files.specs.declared.error.FileError.TheVariants.{NotAFilter, Version, HashCount, EmptyWords, TooManyWords, Cut, TooLong, Reserved, Blocked, NotBlocked, PartOfALine, Seal, Memory, Input}
+use Rattle.bloom_files.specs.declared.error.FileError.TheVariants.{Cut, TooLong, Memory, Input}
 use Rattle.bloom_files.specs.declared.layout.Layout.{Layout}
 use Rattle.bloom_files.specs.File.{bytes_of}
 use Rattle.bloom_files.specs.FileLayouts.{IsReadIn, IsReportedIn, ReadsParts, layout_refusal, numbers_in, refusal_in, sealed_bytes}

@@ -1,5 +1,5 @@
 -- What a filter that grows keeps through its calls.
-use Rattle.std.proofs.Common.{◌≡◌, ℕ, zero, suc, ◌+◌, ◌*◌, ◌^◌, ◌<◌, ◌≤◌, max, false, List, [], ◌∷◌, ◌++◌, length, Option, Some, None, inl, inr, refl, sym, ◌∙◌, ap, subst, arith, lit≤, length-append}
+use Rattle.std.proofs.Common.{◌≡◌, ℕ, zero, suc, ◌+◌, ◌*◌, ◌^◌, ◌<◌, ◌≤◌, false, List, [], ◌∷◌, ◌++◌, length, Option, Some, None, inl, inr, refl, sym, ◌∙◌, ap, subst, arith, lit≤, length-append}
 use Rattle.std.specs.Prelude.{MatchOption}
 use Rattle.std.specs.Option.{SomeIff}
 use Rattle.std.proofs.lemmas.Bool.{cases_lt}
@@ -67,7 +67,7 @@ kept-begun kind setup none made half room some key is first =
 told-or-past : (told : Option ℕ) (n : ℕ) → SomeIff told (n < 2 ^ 64) n
     → MatchOption told (2 ^ 64 ≤ n) (λ m. m ≡ n)
 told-or-past None n not_less =
-    elim (cases_lt n (2 ^ 64)) [ | inl less ↦ absurd (not_less less) | inr past ↦ past ]
+    elim (cases_lt n (2 ^ 64)) [ inl less ↦ absurd (not_less less) | inr past ↦ past ]
 told-or-past (Some m) n is = is.1
 
 module _ (kind : Kind) (g : Growing (CloneBuildHasher RandomDefaultHasher)) (rate : Rate) (room : ℕ)

@@ -73,7 +73,8 @@ refuses-memory kind rate room i none = record {
   room_refused = λ small large. let wrong = none.room_refused small large in cc;
   size_refused = λ small few.
       let size = none.size_refused small few in
-      (size.0, size.1, Some Memory, memory (size_refusal_in kind size.0) size.2 size.3 size.4, refl);
+      let told = memory (size_refusal_in kind size.0) size.2 size.3 size.4 in
+      (size.0, size.1, Some Memory, told, refl);
 }
   where
     memory : (listed refusal : Option FilterError) → RefusesAs listed refusal

@@ -1,5 +1,5 @@
 -- What holds of plain and blocked filters alike.
-use Rattle.std.proofs.Common.{◌≡◌, ℕ, zero, suc, ◌*◌, ◌<◌, ◌≤◌, map, get_or, Bool, true, false, ◌||◌, List, [], ◌∷◌, ◌++◌, length, replicate, max, nat_eq, if◌then◌else◌, ◌-◌, ◌^◌, refl, sym, ◌∙◌, ap, subst, arith, lit≤}
+use Rattle.std.proofs.Common.{◌≡◌, ℕ, zero, suc, ◌*◌, ◌<◌, ◌≤◌, map, get_or, Bool, true, false, List, [], ◌∷◌, ◌++◌, length, replicate, max, nat_eq, if◌then◌else◌, ◌-◌, ◌^◌, refl, sym, ◌∙◌, ap, subst, arith, lit≤}
 use Rattle.std.proofs.lemmas.Bool.{or_left, or_right}
 use Rattle.bloom_parts.specs.Content.{content, AreWords, EqualWordsLaw}
 use Rattle.bloom_parts.specs.Sizing.{hashes_for}

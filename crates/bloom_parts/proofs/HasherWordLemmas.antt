@@ -1,5 +1,5 @@
 -- A hasher from its eight words: the first bytes of a word, and the bytes that a word stores.
-use Rattle.std.proofs.Common.{◌≡◌, ℕ, zero, suc, ◌-◌, ◌*◌, ◌%◌, ◌^◌, ◌<◌, List, [], ◌∷◌, length, take, slice_index_or, bit_and, mod-eq_of_lt, refl, sym, ◌∙◌, ap, arith, lit<, length-take}
+use Rattle.std.proofs.Common.{◌≡◌, ℕ, zero, suc, ◌-◌, ◌*◌, ◌%◌, ◌^◌, ◌<◌, List, ◌∷◌, length, take, slice_index_or, bit_and, mod-eq_of_lt, refl, sym, ◌∙◌, ap, arith, lit<, length-take}
 use Rattle.std.proofs.Math.Pow.{pow-lt}
 use Rattle.std.proofs.lemmas.Nat.{and_mask, mod-pow-add}
 use Rattle.std.specs.Int.{w64, from_le_bytes, to_le_bytes}

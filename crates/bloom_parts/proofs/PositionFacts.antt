@@ -1,8 +1,8 @@
 -- Words as sets of positions, and the positions of hashes, at values from outside: for each
 -- definition that public clauses cite a case that holds and cases as near as can be that don't.
 -- The hash 1 has the positions 0, 20, 32 and 29 among 64, and the hash 0 has position 0 alone.
-use Rattle.std.proofs.Common.{◌≡◌, ℕ, zero, suc, ◌+◌, ◌-◌, ◌^◌, ◌<◌, ◌≤◌, ◌&&◌, Bool, true, false, not, [], ◌∷◌, nat_lt, slice_index, refl, sym, ◌∙◌, ap, arith, lit<, lit≤}
-use Rattle.std.proofs.lemmas.Bool.{both_ways, le-ltb}
+use Rattle.std.proofs.Common.{◌≡◌, ℕ, zero, suc, ◌+◌, ◌-◌, ◌^◌, ◌<◌, ◌≤◌, Bool, true, false, [], ◌∷◌, slice_index, refl, sym, arith, lit<, lit≤}
+use Rattle.std.proofs.lemmas.Bool.{both_ways}
 use Rattle.bloom_parts.specs.Chain.{chain, IsAt}
 use Rattle.bloom_parts.specs.Content.{content, index_of, AreWords, EqualWordsLaw, BoundLaw}
 use Rattle.bloom_parts.specs.Counts.{count_on}

@@ -1,5 +1,5 @@
 -- Brackets of rates of false positives, from those of shares of set bits.
-use Rattle.std.proofs.Common.{◌≡◌, ℕ, zero, suc, ◌+◌, ◌-◌, ◌*◌, ◌/◌, ◌^◌, ◌<◌, ◌≤◌, Bool, true, false, ◌||◌, eqb, if◌then◌else◌, refl, ap, ◌∙◌, arith, inl, inr, min, max}
+use Rattle.std.proofs.Common.{◌≡◌, ℕ, zero, suc, ◌+◌, ◌-◌, ◌*◌, ◌/◌, ◌^◌, ◌<◌, ◌≤◌, Bool, true, ◌||◌, eqb, if◌then◌else◌, refl, ap, ◌∙◌, arith, inl, inr, min, max}
 use Rattle.std.proofs.lemmas.Bool.{cases_lt, cond-false, ne_eqb}
 use Rattle.std.proofs.lemmas.Grind.{div_ceil_times}
 use Rattle.std.proofs.lemmas.Nat.{mul-le}
@@ -14,9 +14,8 @@ use Rattle.bloom_parts.specs.Powers.{lower_power_of, upper_power_of}
 use Rattle.bloom_parts.proofs.CountLemmas.{count-most}
 use Rattle.bloom_parts.proofs.DensityLemmas.{density-none}
 use Rattle.bloom_parts.proofs.EndLemmas.{lower-holds, upper-holds, upper-none}
-use Rattle.bloom_parts.proofs.RateEndLemmas.{false_positives-most, false_positives-mean, rate-above, rate-below, raised, raised-fits, raised-near}
+use Rattle.bloom_parts.proofs.RateEndLemmas.{false_positives-most, false_positives-mean, rate-above, rate-below, raised, raised-near}
 use Rattle.bloom_parts.proofs.MeanLemmas.{positives_law}
-use Rattle.bloom_parts.proofs.RoundingLemmas.{div_ceil-le}
 
 -- the share above one that isn't nothing
 share-some : (b k high : ℕ) → 0 < high → share_above b k high ≡ raised (2 ^ 63) b k high

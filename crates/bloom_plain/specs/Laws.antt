@@ -13,13 +13,15 @@ use Rattle.bloom_plain.specs.declared.bloom.command.Command.TheVariants as comma
 
 -- an insert returns what a look-up just before it would have, and afterwards its hash is contained
 abbrev pub InsertLaw : Placement → (S : Type 0) → Type 0
-InsertLaw place S = (old new : Filter S) (hash : ℕ) (reply : Bool) → InsertsBy place old hash new reply
+InsertLaw place S = (old new : Filter S) (hash : ℕ) (reply : Bool)
+    → InsertsBy place old hash new reply
     → (reply ≡ contains_by place old hash) × (contains_by place new hash ≡ true)
 
 -- a hash that is contained stays contained under an insert of any hash
 abbrev pub KeptByInsertLaw : Placement → (S : Type 0) → Type 0
 KeptByInsertLaw place S = (old new : Filter S) (inserted hash : ℕ) (reply : Bool)
-    → InsertsBy place old inserted new reply → contains_by place old hash ≡ true → contains_by place new hash ≡ true
+    → InsertsBy place old inserted new reply
+    → contains_by place old hash ≡ true → contains_by place new hash ≡ true
 
 -- a hash that is contained stays contained under a union
 abbrev pub KeptByUnionLaw : Placement → (S : Type 0) → Type 0
@@ -57,7 +59,8 @@ IntersectionLaw place S = (old other new : Filter S) (hash : ℕ)
 abbrev pub UnionLaw : Placement → (S : Type 0) → Type 0
 UnionLaw place S = (old other new : Filter S) (hash : ℕ)
     → SameShape old other → Unites old other new
-    → (contains_by place old hash || contains_by place other hash) ≡ true → contains_by place new hash ≡ true
+    → (contains_by place old hash || contains_by place other hash) ≡ true
+    → contains_by place new hash ≡ true
 
 -- after a clear no hash is contained, since a filter has at least one hash
 abbrev pub ClearLaw : Placement → (S : Type 0) → Type 0

@@ -1,4 +1,4 @@
-use Rattle.std.proofs.Common.{◌/◌, ◌||◌, ◌&&◌, ◌==◌, ◌∷◌, [], Bool, not, length, slice_index, sym, ap, ◌∙◌, rules}
+use Rattle.std.proofs.Common.{◌/◌, ◌||◌, ◌&&◌, ◌==◌, ◌∷◌, [], not, length, slice_index, sym, ap, ◌∙◌, rules}
 use Rattle.std.proofs.Math.Bool.{or-false}
 use Rattle.bloom_parts.specs.Content.{content}
 use Rattle.bloom_parts.specs.Many.{is_new}
