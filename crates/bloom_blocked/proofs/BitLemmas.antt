@@ -1,27 +1,22 @@
 -- Bit sets of one word, and of a word after the other.
-use Rattle.std.proofs.Common.{◌≢◌, eqb, ◌≡◌, ◌<◌, ◌+◌, ◌*◌, ◌/◌, ◌%◌, ◌^◌, ℕ, Bool, true, false, ◌||◌, ◌&&◌, ◌==◌, if◌then◌else◌, List, length, set, get_or, bit_or, nat_lt, [], ◌∷◌, ◌≤◌, refl, sym, ◌∙◌, ap, arith, inl, inr, lit<}
-use Rattle.std.proofs.lemmas.Bool.{cases_eq, cases_lt, lt-ltb, le-ltb, eq-eqb, ne_eqb}
+use Rattle.std.proofs.Common.{◌≢◌, eqb, ◌≡◌, ◌<◌, ◌+◌, ◌*◌, ◌/◌, ◌%◌, ◌^◌, ℕ, Bool, ◌||◌, ◌&&◌, ◌==◌, if◌then◌else◌, List, length, set, get_or, bit_or, nat_lt, [], ◌∷◌, ◌≤◌, refl, sym, ◌∙◌, ap, subst, arith, inl, inr}
+use Rattle.std.proofs.lemmas.Bool.{cases_eq, cases_lt, lt-ltb, le-ltb}
 use Rattle.std.proofs.Math.Arith.{lt_of_le-ne}
 use Rattle.std.proofs.lemmas.List.{get_or-set_same, get_or-set_other}
-use Rattle.std.proofs.Math.Bool.{or-false, and-true, and-false}
-use Rattle.std.specs.Int.Bits.{or_zero_r}
 use Rattle.std.specs.Int.{bit_at}
 use Rattle.bloom_parts.specs.Content.{bit_is_on, content}
-use Rattle.bloom_parts.proofs.PublishedLemmas.{bits-next, content-set}
+use Rattle.bloom_parts.proofs.PublishedLemmas.{content-where}
 
 -- a bit of a word that is set where it is to be, and the others
 pub word-where : (word i : ℕ) (on : Bool) (mask : ℕ) → i < 64
     → mask ≡ (if on then 2 ^ i else 0) → (p : ℕ)
     → content (bit_or word mask ∷ []) p ≡ (content (word ∷ []) p || p == i && on)
-word-where word i true mask within is p =
-    let small : i % 64 ≡ i = omega (arith, within) in
-    content-set (word ∷ []) (word ∷ []) refl 0 mask word i (omega (arith, within))
-    (is ∙ ap (λ j. 2 ^ j) (sym small)) refl (lit< tt) p
-    ∙ ap (λ b. content (word ∷ []) p || b) (sym (and-true (p == i)))
-word-where word i false mask within is p =
-    ap (λ w. content (w ∷ []) p) (ap (bit_or word) is ∙ or_zero_r word)
-    ∙ sym (or-false (content (word ∷ []) p))
-    ∙ ap (λ b. content (word ∷ []) p || b) (sym (and-false (p == i)))
+word-where word i on mask within is p =
+    let first : i / 64 ≡ 0 = omega (arith, within) in
+    let small : i ≡ i % 64 = omega (arith, within) in
+    subst (λ j. content (set (word ∷ []) j (bit_or (get_or (word ∷ []) j 0) mask)) p
+    ≡ (content (word ∷ []) p || p == i && on)) first
+    (content-where (word ∷ []) i on mask within (is ∙ ap (λ j. if on then 2 ^ j else 0) small) p)
 
 -- whether a bit is set in a word that stands in a bit set by itself
 word-alone : (v q : ℕ) → q < 64 → content (v ∷ []) q ≡ bit_is_on v q

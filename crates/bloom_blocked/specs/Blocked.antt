@@ -3,7 +3,7 @@
 -- kinds. Only the positions of a hash are others. This project's own.
 use Rattle.std.specs.Prelude.{◌≡◌, ℕ, ◌/◌, ◌%◌, ◌^◌, ◌<◌, ◌≤◌, Bool, ◌||◌, List, length, map}
 use Rattle.bloom_parts.specs.Content.{content}
-use Rattle.bloom_plain.specs.Filter.{Filter, SameShape}
+use Rattle.bloom_plain.specs.Filter.{Filter, SameShape, Placement, contains_by, InsertsBy}
 use Rattle.bloom_blocked.specs.Lines.{line_positions, are_in_line}
 use Rattle.bloom_blocked.specs.Many.{positions_in_lines}
 
@@ -24,23 +24,20 @@ HasBlockedShape f = IsBlockedShape (length f.words) f.hashes
 abbrev pub num_lines_of : {S : Type 0} → Filter S → ℕ
 num_lines_of f = length f.words / 8
 
--- the set of the positions of a hash
-abbrev pub positions_in_line : {S : Type 0} → Filter S → ℕ → ℕ → Bool
-positions_in_line f hash = line_positions (num_lines_of f) f.hashes hash
+-- a blocked filter has the positions of a hash in one line
+abbrev pub in_lines : Placement
+in_lines = record {
+  positions = λ words. line_positions (words / 8);
+  are_in = λ words. are_in_line (words / 8);
+}
 
 -- whether all positions of a hash are set
 abbrev pub contains_in_line : {S : Type 0} → Filter S → ℕ → Bool
-contains_in_line f hash = are_in_line (num_lines_of f) f.hashes hash (content f.words)
+contains_in_line f hash = contains_by in_lines f hash
 
--- an insert took the old filter to the new: the positions of a hash were set, and the reply is
--- whether all were set before
-pub record InsertsInLine {S : Type 0} (old : Filter S) (hash : ℕ) (new : Filter S) (reply : Bool)
-    : Type 0 where
-  pub answers : reply ≡ contains_in_line old hash
-  pub bits : (p : ℕ) → content new.words p
-      ≡ (content old.words p || positions_in_line old hash p)
-  pub shape : SameShape old new
-  pub hasher : new.hasher ≡ old.hasher
+-- an insert took a blocked filter to the new one
+abbrev pub InsertsInLine : {S : Type 0} → Filter S → ℕ → Filter S → Bool → Type 0
+InsertsInLine old hash new reply = InsertsBy in_lines old hash new reply
 
 -- from old to new the hashes of a list were inserted: the positions of all of them were set
 pub record InsertsAllInLines {S : Type 0} (old : Filter S) (hashes : List ℕ) (new : Filter S)

@@ -1,9 +1,8 @@
 -- Laws of inserts of many hashes into a blocked filter: of none, and of two lists, one after the
 -- other.
-use Rattle.std.proofs.Common.{ℕ, ◌/◌, Bool, ◌||◌, List, [], ◌++◌, refl, sym, ◌∙◌, ap}
-use Rattle.std.specs.List.{list_any}
-use Rattle.std.proofs.Math.Bool.{or-false, or_assoc}
-use Rattle.std.proofs.lemmas.List.Folds.{list_any-append}
+use Rattle.std.proofs.Common.{ℕ, ◌/◌, ◌||◌, List, [], ◌++◌, refl, sym, ◌∙◌, ap}
+use Rattle.std.proofs.Math.Bool.{or-false}
+use Rattle.bloom_parts.proofs.PublishedLemmas.{many-join}
 use Rattle.bloom_parts.specs.Content.{content}
 use Rattle.bloom_plain.specs.Filter.{Filter}
 use Rattle.bloom_blocked.specs.Lines.{line_positions}
@@ -23,16 +22,13 @@ module _ {S : Type 0} (old : Filter S) where
   pub inserts_all-join : (mid new : Filter S) (xs ys : List ℕ) → InsertsAllInLines old xs mid
       → InsertsAllInLines mid ys new → InsertsAllInLines old (xs ++ ys) new
   inserts_all-join mid new xs ys first second = record {
-    bits = λ p.
-        let on : ℕ → Bool = λ hash. line_positions (num_lines_of old) old.hashes hash p in
-        second.bits p
+    bits = many-join (line_positions (num_lines_of old) old.hashes) (content old.words)
+        (content mid.words) (content new.words) xs ys (xs ++ ys) refl first.bits
+        (λ p. second.bits p
         ∙ ap (λ w. content mid.words p || positions_in_lines (w / 8) mid.hashes ys p)
         (sym first.shape.words)
         ∙ ap (λ k. content mid.words p || positions_in_lines (num_lines_of old) k ys p)
-        (sym first.shape.hashes)
-        ∙ ap (λ b. b || list_any on ys) (first.bits p)
-        ∙ or_assoc (content old.words p) (list_any on xs) (list_any on ys)
-        ∙ ap (λ b. content old.words p || b) (sym (list_any-append on xs ys));
+        (sym first.shape.hashes));
     shape = record {
       words = first.shape.words ∙ second.shape.words;
       hashes = first.shape.hashes ∙ second.shape.hashes;

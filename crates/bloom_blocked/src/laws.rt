@@ -1,10 +1,12 @@
 //! Laws of blocked filters. These functions do nothing: their contracts are the laws.
 ghost use Rattle.std.specs.Prelude.{ℕ, ◌/◌, ◌≡◌, Bool, true};
-ghost use Rattle.bloom_blocked.specs.BlockedLaws.{InsertInLineLaw, KeptByInsertInLineLaw, KeptByInsertsInLinesLaw, KeptByUnionOfLinesLaw, UnionOfLinesLaw, IntersectionOfLinesLaw, ClearOfLinesLaw, OneByOneLaw};
+ghost use Rattle.bloom_blocked.specs.BlockedLaws.{KeptByInsertsInLinesLaw, OneByOneLaw};
+ghost use Rattle.bloom_blocked.specs.Blocked.{in_lines};
 ghost use Rattle.bloom_blocked.specs.LineCourses.{IsLineScript, IsMadeAsScript};
 ghost use Rattle.bloom_blocked.specs.LineSteps.{LooksInLine, SetsInLine};
 ghost use Rattle.bloom_blocked.specs.Lines.{LinePositionsLaw, LineSubsetLaw, LineRangeLaw, OneLineLaw, are_in_line, line_positions};
 ghost use Rattle.bloom_parts.specs.Made.{SharedWords};
+ghost use Rattle.bloom_plain.specs.Laws.{InsertLaw, KeptByInsertLaw, KeptByUnionLaw, UnionLaw, IntersectionLaw, ClearLaw};
 ghost use Rattle.bloom_steps.specs.Carried.{IsCourseOf};
 ghost use Rattle.bloom_steps.specs.CourseLaws.{CourseTells};
 ghost use Rattle.bloom_steps.specs.Courses.{Course};
@@ -24,22 +26,20 @@ pub fn test_of_hash()
 {}
 
 /// An insert returns what a look-up would have returned, and afterwards its hash is contained.
-#[tactic(auto, using(crate::proofs::LawLemmas::insert_law))]
 pub fn insert_answers_contains<S>()
-    ensures { InsertInLineLaw S }
+    ensures { InsertLaw in_lines S }
 {}
 
 /// A contained hash stays contained under inserts and unions.
 pub fn contained_stays<S>()
-    ensures insert { KeptByInsertInLineLaw S }
+    ensures insert { KeptByInsertLaw in_lines S }
     ensures inserts { KeptByInsertsInLinesLaw S }
-    ensures union { KeptByUnionOfLinesLaw S }
+    ensures union { KeptByUnionLaw in_lines S }
 {}
 
 /// After a union every hash is contained that either filter contained. Other hashes may be too.
-#[tactic(auto, using(crate::proofs::LawLemmas::union_law))]
 pub fn union_contains<S>()
-    ensures { UnionOfLinesLaw S }
+    ensures { UnionLaw in_lines S }
 {}
 
 /// In every interleaving of the calls on a shared blocked filter each bit is what the last step
@@ -57,15 +57,13 @@ pub fn interleavings_in_lines()
 {}
 
 /// After an intersection exactly the hashes are contained that both filters contained.
-#[tactic(auto, using(crate::proofs::LawLemmas::intersection_law))]
 pub fn intersection_contains<S>()
-    ensures { IntersectionOfLinesLaw S }
+    ensures { IntersectionLaw in_lines S }
 {}
 
 /// After a clear no hash is contained.
-#[tactic(auto, using(crate::proofs::LawLemmas::clear_law))]
 pub fn clear_contains_nothing<S>()
-    ensures { ClearOfLinesLaw S }
+    ensures { ClearLaw in_lines S }
 {}
 
 /// Many hashes inserted at once make the filter that inserts of each, one after the other, make.

@@ -3,7 +3,7 @@
 //! processor asks for many of these lines at once. The memory then brings them side by side. Words
 //! that don't begin at a line of the cache have each of their lines in two of these, and both are
 //! asked for.
-ghost use Rattle.std.specs.Prelude.{◌≡◌, ℕ, ◌+◌, ◌*◌, ◌/◌, ◌^◌, ◌<◌, ◌≤◌, ◌||◌, ◌==◌, ◌∷◌, [], if◌then◌else◌, length};
+ghost use Rattle.std.specs.Prelude.{◌≡◌, ℕ, ◌+◌, ◌*◌, ◌/◌, ◌^◌, ◌<◌, ◌≤◌, ◌||◌, ◌&&◌, ◌==◌, ◌∷◌, [], if◌then◌else◌, length};
 ghost use Rattle.bloom_parts.specs.Content.{content, index_of};
 ghost use Rattle.bloom_parts.specs.Places.{positions};
 ghost use Rattle.bloom_blocked.specs.Lines.{line_positions, are_in_line};
@@ -163,6 +163,15 @@ fn mask_where(set: bool, i: usize) -> u64
     u64::from(set) << i
 }
 
+// A word with a bit that is set where this is true, and its others.
+#[inline(always)]
+fn with_bit(word: u64, i: usize, set: bool) -> u64
+    requires { i < 64 }
+    ensures { (p : ℕ) → content (result ∷ []) p ≡ (content (word ∷ []) p || p == i && set) }
+{
+    word | mask_where(set, i)
+}
+
 // Whether all positions of a hash are set. The look-up stops at the first that is clear, or else it
 // branches on no word.
 #[inline(always)]
@@ -188,7 +197,11 @@ fn found_bits(words: &[u64], num_hashes: u32, hashes: &[u64], stops: bool) -> u6
     let mut found: u64 = 0;
     let mut i: usize = 0;
     'looks: for hash in hashes {
-        found |= mask_where(contains_either_way(words, num_hashes, *hash, stops), i);
+        found = with_bit(
+            found,
+            i,
+            contains_either_way(words, num_hashes, *hash, stops),
+        );
         i += 1;
     }
     found

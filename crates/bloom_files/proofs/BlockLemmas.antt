@@ -7,7 +7,7 @@ use Rattle.lines.proofs.WritingLemmas.{IsWriting}
 use Rattle.bloom_parts.specs.Hashed.{SipState, Hashed, Takes}
 use Rattle.bloom_parts.specs.Sip.{whole_words}
 use Rattle.bloom_files.specs.declared.error.FileError.{FileError}
-use Rattle.bloom_files.specs.declared.error.FileError.TheVariants.{NotAFilter, Version, HashCount, EmptyWords, TooManyWords, Cut, TooLong, Reserved, Blocked, NotBlocked, PartOfALine, Seal, Memory, Input}
+use Rattle.bloom_files.specs.declared.error.FileError.TheVariants.{Cut, Memory, Input}
 use Rattle.bloom_files.specs.File.{bytes_of}
 use Rattle.bloom_files.specs.FileReads.{AsksAsGiven, FailsWithin, GivesSome, ReadsWords, StopsWords}
 use Rattle.bloom_files.proofs.NumberLemmas.{bytes_of-append, length-bytes_of, length-whole_words}
@@ -139,17 +139,7 @@ stops-later (Some xs) (Some ys) bytes part all Cut taken within stops =
     omega (arith, ap length taken, length-append bytes ys, stops, within)
 stops-later old mid bytes part all Memory taken within stops = tt
 stops-later old mid bytes part all (Input kind) taken within stops = tt
-stops-later old mid bytes part all NotAFilter taken within stops = absurd stops
-stops-later old mid bytes part all Version taken within stops = absurd stops
-stops-later old mid bytes part all HashCount taken within stops = absurd stops
-stops-later old mid bytes part all EmptyWords taken within stops = absurd stops
-stops-later old mid bytes part all TooManyWords taken within stops = absurd stops
-stops-later old mid bytes part all TooLong taken within stops = absurd stops
-stops-later old mid bytes part all Reserved taken within stops = absurd stops
-stops-later old mid bytes part all Blocked taken within stops = absurd stops
-stops-later old mid bytes part all NotBlocked taken within stops = absurd stops
-stops-later old mid bytes part all PartOfALine taken within stops = absurd stops
-stops-later old mid bytes part all Seal taken within stops = absurd stops
+stops-later old mid bytes part all _ taken within stops = absurd stops
 
 -- behind bytes that were taken, a read failed within the rest, and so within all
 pub fails-later : (old mid new : Option (List ℕ)) (bytes : List ℕ) (part all : ℕ)

@@ -1,9 +1,10 @@
 -- Files of filters read back as these filters.
-use Rattle.std.proofs.Common.{◌≡◌, ℕ, zero, suc, ◌*◌, ◌/◌, ◌^◌, ◌<◌, ◌≤◌, List, [], ◌∷◌, ◌++◌, length, drop, Some, None, refl, sym, ap, subst, ◌∙◌, arith, inl, inr, lit<}
+use Rattle.std.proofs.Common.{◌≡◌, ℕ, ◌*◌, ◌^◌, ◌<◌, ◌≤◌, List, ◌++◌, length, drop, Some, None, refl, sym, ap, subst, ◌∙◌, arith, inl, inr, lit<}
 use Rattle.std.specs.Prelude.{◌⊎◌, slice_index}
 use Rattle.std.specs.Option.{option_or}
 use Rattle.std.proofs.lemmas.Grind.{common_steps}
-use Rattle.bloom_parts.specs.Content.{AreWords, content}
+use Rattle.std.proofs.lemmas.List.Elements.{All-from_recursion}
+use Rattle.bloom_parts.specs.Content.{AreWords}
 use Rattle.bloom_parts.specs.Keys.{HasKey, key_of}
 use Rattle.bloom_parts.specs.Sip.{sip, whole_words}
 use Rattle.bloom_parts.specs.declared.hasher.CloneBuildHasher.{CloneBuildHasher}
@@ -14,30 +15,14 @@ use Rattle.bloom_files.specs.declared.head.Head.{Head}
 use Rattle.bloom_files.specs.declared.layout.Layout.{Layout}
 use Rattle.bloom_files.specs.declared.layout.Layout.TheVariants.{Whole, Lines}
 use Rattle.bloom_plain.specs.Data.{DefaultFilter}
-use Rattle.bloom_files.specs.File.{bytes_of, head_of, mark}
+use Rattle.bloom_files.specs.File.{bytes_of, head_of}
 use Rattle.bloom_files.specs.FileLayouts.{AreWhole, IsFileIn, layout_number, layout_refusal, numbers_in, refusal_in, right_seal, sealed_bytes}
 use Rattle.bloom_files.specs.FileRefusals.{head_refusal, number_at, wrong_seal}
-use Rattle.bloom_files.specs.FilterFiles.{AnswerAlikeInLines, BlockedRefusedLaw, FileLaw, IsFileOf, NotBlockedRefusedLaw, ReadableLaw, SameFileItemsLaw}
+use Rattle.bloom_files.specs.FilterFiles.{BlockedRefusedLaw, FileLaw, IsFileOf, NotBlockedRefusedLaw, ReadableLaw, SameFileItemsLaw, placement_in}
 use Rattle.bloom_plain.proofs.DataLemmas.{alike-parts}
-use Rattle.bloom_blocked.specs.Lines.{are_in_line}
 use Rattle.bloom_files.proofs.NumberLemmas.{length-bytes_of, whole_words-alone, whole_words-bytes}
 use Rattle.bloom_files.proofs.RefusalLemmas.{refusal_in-head}
 use Rattle.bloom_files.proofs.SealLemmas.{sealed-head}
-
--- seven numbers of 64 bits, and a zero
-numbers-fit : (a b c d e f g : ℕ) → a < 2 ^ 64 → b < 2 ^ 64 → c < 2 ^ 64 → d < 2 ^ 64 → e < 2 ^ 64
-    → f < 2 ^ 64 → g < 2 ^ 64 → AreWords (a ∷ b ∷ c ∷ d ∷ e ∷ f ∷ g ∷ 0 ∷ [])
-numbers-fit a b c d e f g p q r s t u v zero other below = p
-numbers-fit a b c d e f g p q r s t u v (suc zero) other below = q
-numbers-fit a b c d e f g p q r s t u v (suc (suc zero)) other below = r
-numbers-fit a b c d e f g p q r s t u v (suc (suc (suc zero))) other below = s
-numbers-fit a b c d e f g p q r s t u v (suc (suc (suc (suc zero)))) other below = t
-numbers-fit a b c d e f g p q r s t u v (suc (suc (suc (suc (suc zero))))) other below = u
-numbers-fit a b c d e f g p q r s t u v (suc (suc (suc (suc (suc (suc zero)))))) other below = v
-numbers-fit a b c d e f g p q r s t u v (suc (suc (suc (suc (suc (suc (suc zero))))))) other below =
-    lit< tt
-numbers-fit a b c d e f g p q r s t u v (suc (suc (suc (suc (suc (suc (suc (suc i)))))))) other
-    below = absurd (omega (arith, below))
 
 -- the number of a layout has 64 bits
 layout-fits : (layout : Layout) → layout_number layout < 2 ^ 64
@@ -71,9 +56,16 @@ module _ (layout : Layout) (bytes : List ℕ) (head : Head) (words : List ℕ)
 
   head-fits : AreWords (numbers_in layout head is.seal)
   head-fits =
-      numbers-fit mark head.num_hashes head.num_words head.k0 head.k1 is.seal
-      (layout_number layout) (lit< tt) (omega (arith, is.shape.few_hashes))
-      (omega (arith, is.shape.few_words, is.count)) low high is.narrow (layout-fits layout)
+      All-from_recursion (λ n. n < 2 ^ 64) (numbers_in layout head is.seal) (
+        lit< tt,
+        (
+          omega (arith, is.shape.few_hashes),
+          (
+            omega (arith, is.shape.few_words, is.count),
+            (low, (high, (is.narrow, (layout-fits layout, (lit< tt, tt))))),
+          ),
+        ),
+      )
 
   -- the numbers of the file are those of its head, and the words
   numbers-of : whole_words bytes ≡ numbers_in layout head is.seal ++ words
@@ -182,26 +174,11 @@ module _ (layout : Layout) (bytes : List ℕ) (f g : DefaultFilter) (of : IsFile
   pub same-key : key_of g.hasher ≡ key_of f.hasher
   same-key = λ i. (same-number 3 i, same-number 4 i)
 
--- blocked filters of equal parts answer every hash alike
-alike-in-lines : (f g : DefaultFilter) → g.words ≡ f.words → g.hashes ≡ f.hashes
-    → key_of g.hasher ≡ key_of f.hasher → AnswerAlikeInLines f g
-alike-in-lines f g words hashes key = record {
-  words = words;
-  hashes = hashes;
-  key = key;
-  found = λ hash.
-      ap (λ w. are_in_line (length w / 8) g.hashes hash (content w)) words
-      ∙ ap (λ k. are_in_line (length f.words / 8) k hash (content f.words)) hashes;
-}
-
 -- so they contain the same hashes
 pub file_law : FileLaw
-file_law Whole bytes f g of also =
-    alike-parts f g (same-words Whole bytes f g of also) (same-hashes Whole bytes f g of also)
-    (same-key Whole bytes f g of also)
-file_law Lines bytes f g of also =
-    alike-in-lines f g (same-words Lines bytes f g of also) (same-hashes Lines bytes f g of also)
-    (same-key Lines bytes f g of also)
+file_law layout bytes f g of also =
+    alike-parts (placement_in layout) f g (same-words layout bytes f g of also)
+    (same-hashes layout bytes f g of also) (same-key layout bytes f g of also)
 
 -- an item has one hash under the hashers of filters of one file
 pub same_file_items_law : {T : Type 0} (hash_of : CloneBuildHasher RandomDefaultHasher → T → ℕ)

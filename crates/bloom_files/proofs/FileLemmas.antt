@@ -25,15 +25,7 @@ eight : (numbers : List ℕ) → length numbers ≡ 8
     ∷ slice_index numbers 3 ∷ slice_index numbers 4 ∷ slice_index numbers 5
     ∷ slice_index numbers 6 ∷ slice_index numbers 7 ∷ []
 eight (a ∷ b ∷ c ∷ d ∷ e ∷ f ∷ g ∷ h ∷ []) size = refl
-eight (a ∷ b ∷ c ∷ d ∷ e ∷ f ∷ g ∷ h ∷ i ∷ more) size = absurd (omega arith)
-eight [] size = absurd (omega arith)
-eight (a ∷ []) size = absurd (omega arith)
-eight (a ∷ b ∷ []) size = absurd (omega arith)
-eight (a ∷ b ∷ c ∷ []) size = absurd (omega arith)
-eight (a ∷ b ∷ c ∷ d ∷ []) size = absurd (omega arith)
-eight (a ∷ b ∷ c ∷ d ∷ e ∷ []) size = absurd (omega arith)
-eight (a ∷ b ∷ c ∷ d ∷ e ∷ f ∷ []) size = absurd (omega arith)
-eight (a ∷ b ∷ c ∷ d ∷ e ∷ f ∷ g ∷ []) size = absurd (omega arith)
+eight _ size = absurd (omega arith)
 
 -- a head that is refused neither for its mark nor for its end is the bytes of what it says
 pub head-is : (layout : Layout) (head : List ℕ) → AreBytes head → length head ≡ 64

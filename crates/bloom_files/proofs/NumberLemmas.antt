@@ -22,14 +22,7 @@ whole_words-chunks (a ∷ b ∷ c ∷ d ∷ e ∷ f ∷ g ∷ h ∷ bytes) =
     (whole_words-chunks bytes)
     ∙ ap (λ n. map (from_le_bytes w64)
     (first_chunks 8 n (a ∷ b ∷ c ∷ d ∷ e ∷ f ∷ g ∷ h ∷ bytes))) (sym more)
-whole_words-chunks [] = refl
-whole_words-chunks (a ∷ []) = refl
-whole_words-chunks (a ∷ b ∷ []) = refl
-whole_words-chunks (a ∷ b ∷ c ∷ []) = refl
-whole_words-chunks (a ∷ b ∷ c ∷ d ∷ []) = refl
-whole_words-chunks (a ∷ b ∷ c ∷ d ∷ e ∷ []) = refl
-whole_words-chunks (a ∷ b ∷ c ∷ d ∷ e ∷ f ∷ []) = refl
-whole_words-chunks (a ∷ b ∷ c ∷ d ∷ e ∷ f ∷ g ∷ []) = refl
+whole_words-chunks _ = refl
 
 -- the numbers of bytes that stand for numbers, with more bytes behind them
 pub whole_words-bytes : (numbers more : List ℕ) → AreWords numbers
@@ -62,14 +55,7 @@ bytes_of-whole_words (a ∷ b ∷ c ∷ d ∷ e ∷ f ∷ g ∷ h ∷ bytes) sma
     first small (suc (suc (suc (suc (suc (suc zero)))))) = small 6
     first small (suc (suc (suc (suc (suc (suc (suc zero))))))) = small 7
     first small (suc (suc (suc (suc (suc (suc (suc (suc i)))))))) = omega arith
-bytes_of-whole_words [] small = refl
-bytes_of-whole_words (a ∷ []) small = refl
-bytes_of-whole_words (a ∷ b ∷ []) small = refl
-bytes_of-whole_words (a ∷ b ∷ c ∷ []) small = refl
-bytes_of-whole_words (a ∷ b ∷ c ∷ d ∷ []) small = refl
-bytes_of-whole_words (a ∷ b ∷ c ∷ d ∷ e ∷ []) small = refl
-bytes_of-whole_words (a ∷ b ∷ c ∷ d ∷ e ∷ f ∷ []) small = refl
-bytes_of-whole_words (a ∷ b ∷ c ∷ d ∷ e ∷ f ∷ g ∷ []) small = refl
+bytes_of-whole_words _ small = refl
 
 -- eight bytes for each number
 pub length-bytes_of : (numbers : List ℕ) → length (bytes_of numbers) ≡ 8 * length numbers
@@ -82,27 +68,14 @@ pub rest-none : (bytes : List ℕ) → length bytes % 8 ≡ 0 → rest bytes ≡
 unfolding rest
 rest-none (a ∷ b ∷ c ∷ d ∷ e ∷ f ∷ g ∷ h ∷ bytes) whole = rest-none bytes (omega arith)
 rest-none [] whole = refl
-rest-none (a ∷ []) whole = absurd (omega arith)
-rest-none (a ∷ b ∷ []) whole = absurd (omega arith)
-rest-none (a ∷ b ∷ c ∷ []) whole = absurd (omega arith)
-rest-none (a ∷ b ∷ c ∷ d ∷ []) whole = absurd (omega arith)
-rest-none (a ∷ b ∷ c ∷ d ∷ e ∷ []) whole = absurd (omega arith)
-rest-none (a ∷ b ∷ c ∷ d ∷ e ∷ f ∷ []) whole = absurd (omega arith)
-rest-none (a ∷ b ∷ c ∷ d ∷ e ∷ f ∷ g ∷ []) whole = absurd (omega arith)
+rest-none _ whole = absurd (omega arith)
 
 -- how many numbers there are
 pub length-whole_words : (bytes : List ℕ) → length (whole_words bytes) ≡ length bytes / 8
 unfolding whole_words
 length-whole_words (a ∷ b ∷ c ∷ d ∷ e ∷ f ∷ g ∷ h ∷ bytes) =
     omega (arith, length-whole_words bytes)
-length-whole_words [] = refl
-length-whole_words (a ∷ []) = refl
-length-whole_words (a ∷ b ∷ []) = refl
-length-whole_words (a ∷ b ∷ c ∷ []) = refl
-length-whole_words (a ∷ b ∷ c ∷ d ∷ []) = refl
-length-whole_words (a ∷ b ∷ c ∷ d ∷ e ∷ []) = refl
-length-whole_words (a ∷ b ∷ c ∷ d ∷ e ∷ f ∷ []) = refl
-length-whole_words (a ∷ b ∷ c ∷ d ∷ e ∷ f ∷ g ∷ []) = refl
+length-whole_words _ = refl
 
 -- behind bytes that are cut into eights the numbers of more bytes follow
 pub whole_words-append : (bytes more : List ℕ) → length bytes % 8 ≡ 0
@@ -112,13 +85,7 @@ whole_words-append (a ∷ b ∷ c ∷ d ∷ e ∷ f ∷ g ∷ h ∷ bytes) more 
     ap (λ ws. from_le_bytes w64 (a ∷ b ∷ c ∷ d ∷ e ∷ f ∷ g ∷ h ∷ []) ∷ ws)
     (whole_words-append bytes more (omega arith))
 whole_words-append [] more whole = refl
-whole_words-append (a ∷ []) more whole = absurd (omega arith)
-whole_words-append (a ∷ b ∷ []) more whole = absurd (omega arith)
-whole_words-append (a ∷ b ∷ c ∷ []) more whole = absurd (omega arith)
-whole_words-append (a ∷ b ∷ c ∷ d ∷ []) more whole = absurd (omega arith)
-whole_words-append (a ∷ b ∷ c ∷ d ∷ e ∷ []) more whole = absurd (omega arith)
-whole_words-append (a ∷ b ∷ c ∷ d ∷ e ∷ f ∷ []) more whole = absurd (omega arith)
-whole_words-append (a ∷ b ∷ c ∷ d ∷ e ∷ f ∷ g ∷ []) more whole = absurd (omega arith)
+whole_words-append _ more whole = absurd (omega arith)
 
 -- the number at a place is that of the chunk there
 pub number-in : (bytes : List ℕ) (place : ℕ) (chunks : List (List ℕ))

@@ -7,7 +7,7 @@ use Rattle.std.proofs.KnownBytes.{Consumes-trans, Consumes-whole}
 use Rattle.bloom_parts.specs.Hashed.{SipState, Hashed, Answers}
 use Rattle.bloom_parts.specs.Sip.{sip}
 use Rattle.bloom_files.specs.declared.error.FileError.{FileError}
-use Rattle.bloom_files.specs.declared.error.FileError.TheVariants.{NotAFilter, Version, HashCount, EmptyWords, TooManyWords, Cut, TooLong, Reserved, Blocked, NotBlocked, PartOfALine, Seal, Memory, Input}
+use Rattle.bloom_files.specs.declared.error.FileError.TheVariants.{Cut, TooLong, Memory, Input}
 use Rattle.bloom_files.specs.declared.layout.Layout.{Layout}
 use Rattle.bloom_files.specs.File.{bytes_of}
 use Rattle.bloom_files.specs.FileLayouts.{IsReadIn, IsReportedIn, ReadsParts, layout_refusal, numbers_in, refusal_in, sealed_bytes}
@@ -45,17 +45,7 @@ module _ (old mid : Option (List ℕ)) (start : List ℕ) (size : length start �
       told (Some bytes) (Some body) taken Memory stops =
           rw taken (inr (inl (refl, head_refusal-head start body size ∙ good)))
       told (Some bytes) (Some body) taken (Input kind) stops = inr (inr (kind, refl))
-      told (Some bytes) (Some body) taken NotAFilter stops = absurd stops
-      told (Some bytes) (Some body) taken Version stops = absurd stops
-      told (Some bytes) (Some body) taken HashCount stops = absurd stops
-      told (Some bytes) (Some body) taken EmptyWords stops = absurd stops
-      told (Some bytes) (Some body) taken TooManyWords stops = absurd stops
-      told (Some bytes) (Some body) taken TooLong stops = absurd stops
-      told (Some bytes) (Some body) taken Reserved stops = absurd stops
-      told (Some bytes) (Some body) taken Blocked stops = absurd stops
-      told (Some bytes) (Some body) taken NotBlocked stops = absurd stops
-      told (Some bytes) (Some body) taken PartOfALine stops = absurd stops
-      told (Some bytes) (Some body) taken Seal stops = absurd stops
+      told (Some bytes) (Some body) taken _ stops = absurd stops
 
   -- a read that fails among the words decides no refusal yet
   pub words-early : (new : Option (List ℕ)) (count : ℕ) → count ≡ number_at start 2
@@ -109,18 +99,7 @@ module _ (old mid end : Option (List ℕ)) (start : List ℕ) (size : length sta
           (length_refusal-long start (bytes_of words ++ more) size
           (omega (arith, right, stops, length-append (bytes_of words) more))))))
       told (Some bytes) (Some more) taken (Input kind) stops = inr (inr (kind, refl))
-      told (Some bytes) (Some more) taken NotAFilter stops = absurd stops
-      told (Some bytes) (Some more) taken Version stops = absurd stops
-      told (Some bytes) (Some more) taken HashCount stops = absurd stops
-      told (Some bytes) (Some more) taken EmptyWords stops = absurd stops
-      told (Some bytes) (Some more) taken TooManyWords stops = absurd stops
-      told (Some bytes) (Some more) taken Cut stops = absurd stops
-      told (Some bytes) (Some more) taken Reserved stops = absurd stops
-      told (Some bytes) (Some more) taken Blocked stops = absurd stops
-      told (Some bytes) (Some more) taken NotBlocked stops = absurd stops
-      told (Some bytes) (Some more) taken PartOfALine stops = absurd stops
-      told (Some bytes) (Some more) taken Seal stops = absurd stops
-      told (Some bytes) (Some more) taken Memory stops = absurd stops
+      told (Some bytes) (Some more) taken _ stops = absurd stops
 
   -- a read that fails behind the words decides no refusal yet
   pub end-early : (new : Option (List ℕ)) (error : FileError) → FailsWithin 1 end new error

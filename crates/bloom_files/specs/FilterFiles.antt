@@ -2,11 +2,11 @@
 -- are this project's choice.
 use Rattle.std.specs.Prelude.{◌≡◌, ℕ, List, Option, Some, None}
 use Rattle.std.specs.Io.KnownBytes.{Appends, Consumes, IsAtEnd}
-use Rattle.bloom_parts.specs.Keys.{key_of}
 use Rattle.bloom_parts.specs.declared.hasher.CloneBuildHasher.{CloneBuildHasher}
 use Rattle.bloom_parts.specs.declared.hasher.sip.RandomDefaultHasher.{RandomDefaultHasher}
-use Rattle.bloom_plain.specs.Data.{AnswerAlike, DefaultFilter}
-use Rattle.bloom_blocked.specs.Blocked.{contains_in_line}
+use Rattle.bloom_plain.specs.Data.{AnswerAlikeBy, DefaultFilter}
+use Rattle.bloom_plain.specs.Filter.{Placement, anywhere}
+use Rattle.bloom_blocked.specs.Blocked.{in_lines}
 use Rattle.bloom_files.specs.declared.error.FileError.TheVariants.{Blocked, NotBlocked}
 use Rattle.bloom_files.specs.declared.layout.Layout.{Layout}
 use Rattle.bloom_files.specs.declared.layout.Layout.TheVariants.{Whole, Lines}
@@ -37,22 +37,15 @@ pub record WritesFile (layout : Layout) (old new : Option (List ℕ)) (f : Defau
     pub added : Appends old new bytes
     pub is_file : IsFileOf layout bytes f
 
--- two blocked filters have equal words, numbers of hashes and keys, and contain the same hashes
-pub record AnswerAlikeInLines (f g : DefaultFilter) : Type 0 where
-  pub words : g.words ≡ f.words
-  pub hashes : g.hashes ≡ f.hashes
-  pub key : key_of g.hasher ≡ key_of f.hasher
-  pub found : (hash : ℕ) → contains_in_line g hash ≡ contains_in_line f hash
-
--- two filters of one kind have equal words, numbers of hashes and keys, and contain the same hashes
-abbrev pub AnswerAlikeIn : Layout → DefaultFilter → DefaultFilter → Type 0
-AnswerAlikeIn Whole f g = AnswerAlike f g
-AnswerAlikeIn Lines f g = AnswerAlikeInLines f g
+-- where a filter of a layout has the positions of a hash
+abbrev pub placement_in : Layout → Placement
+placement_in Whole = anywhere
+placement_in Lines = in_lines
 
 -- two filters of one file contain the same hashes
 abbrev pub FileLaw : Type 0
 FileLaw = (layout : Layout) (bytes : List ℕ) (f g : DefaultFilter) → IsFileOf layout bytes f
-    → IsFileOf layout bytes g → AnswerAlikeIn layout f g
+    → IsFileOf layout bytes g → AnswerAlikeBy (placement_in layout) f g
 
 -- filters of one file whose hashers have taken in nothing give each item one source hash
 abbrev pub SameFileItemsLaw :

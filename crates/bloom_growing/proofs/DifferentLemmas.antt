@@ -2,7 +2,7 @@
 use Rattle.std.proofs.Common.{◌≡◌, ◌≢◌, ◌⊎◌, inl, inr, ◌≤◌, suc, Bool, true, false, ◌||◌, cond, List, [], ◌∷◌, ◌++◌, length, refl, sym, ◌∙◌, ap, subst, length-append, arith}
 use Rattle.std.specs.Bool.{Decides}
 use Rattle.std.specs.Set.{distinct_count, unique_keys, is_member}
-use Rattle.std.proofs.lemmas.Bool.{true≢false}
+use Rattle.std.proofs.lemmas.Bool.{false_from_ne_true, or_parts, true≢false}
 use Rattle.std.proofs.lemmas.List.Folds.{list_any-append}
 
 module _ {A : Type 0} where
@@ -47,19 +47,8 @@ module _ {A : Type 0} where
 
   module _ (eq : A → A → Bool) (decides : (a b : A) → Decides (eq a b) (a ≡ b)) where
     same-false : (a b : A) → a ≢ b → eq a b ≡ false
-    same-false a b differs = by (eq a b) refl
-      where
-        by : (r : Bool) → eq a b ≡ r → eq a b ≡ false
-        by true is = absurd (differs ((decides a b).0 is))
-        by false is = is
-
-    or-left : (a b : Bool) → (a || b) ≡ false → a ≡ false
-    or-left true b is = is
-    or-left false b is = refl
-
-    or-right : (a b : Bool) → (a || b) ≡ false → b ≡ false
-    or-right true b is = absurd (true≢false is)
-    or-right false b is = is
+    same-false a b differs =
+        false_from_ne_true (eq a b) (λ is. differs ((decides a b).0 is))
 
     -- one element more in front
     cons-in : (x : A) (xs : List A) → is_member eq xs x ≡ true
@@ -88,12 +77,12 @@ module _ {A : Type 0} where
         → suc (distinct_count eq xs) ≤ distinct_count eq (xs ++ x ∷ [])
     one-more [] x out = let one : distinct_count eq (x ∷ []) ≡ 1 = refl in omega (arith, one)
     one-more (y ∷ xs) x out =
-        by (one-more xs x (or-right (eq x y) (is_member eq xs x) out)) (is_member eq xs y) refl
+        by (one-more xs x (or_parts (eq x y) (is_member eq xs x) out).1) (is_member eq xs y) refl
       where
         differs : eq y x ≡ false
         differs =
             same-false y x (λ same. true≢false
-            (sym ((decides x y).1 (sym same)) ∙ or-left (eq x y) (is_member eq xs x) out))
+            (sym ((decides x y).1 (sym same)) ∙ (or_parts (eq x y) (is_member eq xs x) out).0))
 
         by : suc (distinct_count eq xs) ≤ distinct_count eq (xs ++ x ∷ [])
             → (b : Bool) → is_member eq xs y ≡ b

@@ -1,20 +1,17 @@
 -- What a filter that grows keeps through its calls.
-use Rattle.std.proofs.Common.{◌≡◌, ℕ, zero, suc, ◌+◌, ◌*◌, ◌^◌, ◌<◌, ◌≤◌, max, false, List, [], ◌∷◌, ◌++◌, length, Option, Some, sym, ◌∙◌, ap, subst, arith, lit≤, length-append}
+use Rattle.std.proofs.Common.{◌≡◌, ℕ, zero, suc, ◌+◌, ◌*◌, ◌^◌, ◌<◌, ◌≤◌, false, List, [], ◌∷◌, ◌++◌, length, Option, Some, None, inl, inr, refl, sym, ◌∙◌, ap, subst, arith, lit≤, length-append}
+use Rattle.std.specs.Prelude.{MatchOption}
+use Rattle.std.specs.Option.{SomeIff}
+use Rattle.std.proofs.lemmas.Bool.{cases_lt}
 use Rattle.std.proofs.Math.Nat.{one-le-pow}
-use Rattle.bloom_parts.specs.declared.error.FilterError.{FilterError}
 use Rattle.bloom_parts.specs.declared.hasher.CloneBuildHasher.{CloneBuildHasher}
 use Rattle.bloom_parts.specs.declared.hasher.sip.RandomDefaultHasher.{RandomDefaultHasher}
 use Rattle.bloom_parts.specs.declared.math.rate.Rate.{Rate}
 use Rattle.bloom_parts.specs.Rates.{num_of, den_of}
-use Rattle.bloom_plain.specs.Builders.{RefusesAs}
 use Rattle.bloom_plain.specs.Filter.{Filter}
-use Rattle.bloom_growing.specs.Growing.{Setup, Growing, room_at, den_at, newest_room, rate_start, IsNumber, any_contains, Took, IsKeyed, IsSound}
-use Rattle.bloom_growing.specs.GrowingInserts.{of_builders, RefusesNumber}
-use Rattle.bloom_growing.specs.Kinds.{Kind, InsertsIn, IsMadeIn, IsSizeIn, size_refusal_in}
-use Rattle.bloom_growing.specs.declared.growing.error.GrowingError.{GrowingError}
-use Rattle.bloom_growing.specs.declared.growing.error.GrowingError.TheVariants.{RateOverflow, TooManyItems}
+use Rattle.bloom_growing.specs.Growing.{Setup, Growing, room_at, den_at, newest_room, rate_start, IsNumber, IsNext, IsMadeAs, any_contains, Took, AreFull, IsKeyed, IsSound}
+use Rattle.bloom_growing.specs.Kinds.{Kind, InsertsIn, IsMadeIn}
 use Rattle.bloom_growing.proofs.GrowingLemmas.{room_at-next, den_at-next, took-none, took-next, are_full-next}
-use Rattle.bloom_growing.proofs.GrowingRefusalLemmas.{refuses-rate, refuses-room, refuses-size}
 
 -- the builders made a filter for the rate and the room of its number
 pub is_number : {S : Type 0} (kind : Kind) (setup : Setup S) (i : ℕ) (half : Rate) (many : ℕ)
@@ -34,120 +31,90 @@ pub some_room_at : (room i : ℕ) → 1 ≤ room → 1 ≤ room_at room i
 some_room_at zero i some = absurd (omega (arith, some))
 some_room_at (suc room) i some = omega (arith, one-le-pow i 2 (lit≤ tt))
 
+-- the first filter has half the rate, and the room that was asked for
+pub next-first : (rate : Rate) (first room : ℕ) → room ≡ first → 1 ≤ first
+    → IsNext rate first 0 rate (Some room)
+next-first rate first room is some = record {
+  num = refl;
+  den = omega arith;
+  some = omega (arith, some);
+  fits = omega (arith, is);
+}
+
 -- the first filter keeps the rule
 pub kept-begun : (kind : Kind) (setup : Setup (CloneBuildHasher RandomDefaultHasher))
     (none : List (Filter (CloneBuildHasher RandomDefaultHasher)))
-    (made : Filter (CloneBuildHasher RandomDefaultHasher)) (half : Rate) → 1 ≤ setup.room
-    → IsKeyed setup.hasher → none ≡ [] → IsNumber kind setup 0 made
-    → num_of half ≡ num_of setup.rate → den_of half ≡ den_at setup.rate 0
-    → IsSound kind (record { setup = setup; older = none; newest = made; taken = 0 }) half
-    setup.room
-kept-begun kind setup none made half some key is number num den =
+    (made : Filter (CloneBuildHasher RandomDefaultHasher)) (half : Rate) (room : ℕ)
+    → 1 ≤ setup.room → IsKeyed setup.hasher → none ≡ [] → IsMadeAs kind setup 0 made half room
+    → IsSound kind (record { setup = setup; older = none; newest = made; taken = 0 }) half room
+kept-begun kind setup none made half room some key is first =
     subst
-    (λ l. IsSound kind (record { setup = setup; older = l; newest = made; taken = 0 }) half
-    setup.room)
+    (λ l. IsSound kind (record { setup = setup; older = l; newest = made; taken = 0 }) half room)
     (sym is) (record {
       grown = record {
         some_room = some;
         full = tt;
-        newest = took-none kind setup [] made number;
+        newest = took-none kind setup [] made first.number;
         most = omega arith;
       };
       key = key;
-      num = num;
-      den = den;
-      newest_is = omega arith;
+      num = first.num;
+      den = first.den;
+      newest_is = first.is_room;
     })
 
--- the next filter is refused with this error
-abbrev pub RefusesNext : Kind → Growing (CloneBuildHasher RandomDefaultHasher)
-    → Option GrowingError → Type 0
-RefusesNext kind g = RefusesNumber kind g.setup.rate g.setup.room (length g.older + 1)
+-- a number that is told where it has 64 bits
+told-or-past : (told : Option ℕ) (n : ℕ) → SomeIff told (n < 2 ^ 64) n
+    → MatchOption told (2 ^ 64 ≤ n) (λ m. m ≡ n)
+told-or-past None n not_less =
+    elim (cases_lt n (2 ^ 64)) [ inl less ↦ absurd (not_less less) | inr past ↦ past ]
+told-or-past (Some m) n is = is.1
 
 module _ (kind : Kind) (g : Growing (CloneBuildHasher RandomDefaultHasher)) (rate : Rate) (room : ℕ)
     (kept : IsSound kind g rate room) where
-  -- the rate of the next filter has twice the lower part
-  next-den : den_of rate * 2 ≡ den_at g.setup.rate (length g.older + 1)
-  next-den = ap (λ n. n * 2) kept.den ∙ sym (den_at-next g.setup.rate (length g.older))
+  -- the next filter has half the rate of the newest, and twice the room
+  pub next-begins : (many : Option ℕ) → SomeIff many (room * 2 < 2 ^ 64) (room * 2)
+      → IsNext g.setup.rate g.setup.room (length g.older + 1) rate many
+  next-begins many is =
+      let number = length g.older in
+      let twice : room * 2 ≡ room_at g.setup.room (number + 1) =
+      ap (λ n. n * 2) kept.newest_is ∙ sym (room_at-next g.setup.room number) in
+      record {
+        num = kept.num;
+        den = ap (λ n. n * 2) kept.den ∙ sym (den_at-next g.setup.rate number);
+        some = some_room_at g.setup.room (number + 1) kept.grown.some_room;
+        fits = told-or-past many _ (subst (λ r. SomeIff many (r < 2 ^ 64) r) twice is);
+      }
 
-  -- the next filter has twice the room
-  next-room : room * 2 ≡ room_at g.setup.room (length g.older + 1)
-  next-room = ap (λ n. n * 2) kept.newest_is ∙ sym (room_at-next g.setup.room (length g.older))
-
-  -- the next filter is refused where the rate can't be halved
-  pub refuses-next_rate : (error : GrowingError) → 2 ^ 64 ≤ den_of rate * 2 → error ≡ RateOverflow
-      → RefusesNext kind g (Some error)
-  refuses-next_rate error =
-      refuses-rate kind g.setup.rate g.setup.room (length g.older + 1) _ error next-den
-
-  module _ (half : Rate) (num : num_of half ≡ num_of rate) (den : den_of half ≡ den_of rate * 2)
-    where
-      -- and then where the room is too large
-      pub refuses-next_room : den_of half < 2 ^ 64 → 2 ^ 64 ≤ room * 2
-          → RefusesNext kind g (Some TooManyItems)
-      refuses-next_room fits =
-          refuses-room kind g.setup.rate g.setup.room (length g.older + 1) _ _ (den ∙ next-den) fits
-          next-room
-
-      module _ (many : ℕ) (is_room : many ≡ room * 2) where
-        -- and then as the builders refuse a size
-        pub refuses-next_size : (refusal : Option FilterError) → den_of half < 2 ^ 64
-            → many < 2 ^ 64
-            → (bits : ℕ) × IsSizeIn kind (max 1 many) (num_of half) (den_of half) bits
-            × RefusesAs (size_refusal_in kind bits) refusal
-            → RefusesNext kind g (of_builders refusal)
-        refuses-next_size refusal fits few sized =
-            let some : 1 ≤ many = omega (
-              arith,
-              is_room,
-              kept.newest_is,
-              some_room_at g.setup.room (length g.older) kept.grown.some_room,
-            ) in
-            refuses-size kind g.setup.rate g.setup.room (length g.older + 1) half many
-            refusal (num ∙ kept.num) (den ∙ next-den) fits (is_room ∙ next-room) few some sized
-
-        -- a filter that was made for this rate and this room has the next number
-        pub next-number : (made new : Filter (CloneBuildHasher RandomDefaultHasher)) → new ≡ made
-            → IsMadeIn kind (rate_start half g.setup.hasher) many made
-            → IsNumber kind g.setup (length g.older + 1) new
-        next-number made new is made_for =
-            subst (IsNumber kind g.setup (length g.older + 1)) (sym is)
-            (is_number kind g.setup (length g.older + 1) half many made (num ∙ kept.num)
-            (den ∙ next-den) (is_room ∙ next-room) made_for)
-
-        -- the next filter keeps the rule, if the newest was full
-        pub kept-begins : (made new : Filter (CloneBuildHasher RandomDefaultHasher)) → new ≡ made
-            → IsMadeIn kind (rate_start half g.setup.hasher) many made
-            → (items : List (Filter (CloneBuildHasher RandomDefaultHasher)))
-            → items ≡ g.older ++ g.newest ∷ [] → newest_room g ≤ g.taken
-            → IsSound kind (record { setup = g.setup; older = items; newest = new; taken = 0 })
-            half many
-        kept-begins made new is made_for items are full =
-            let more : length (g.older ++ g.newest ∷ []) ≡ length g.older + 1 =
-            length-append g.older (g.newest ∷ []) in
-            let number = next-number made new is made_for in
-            let grown = kept.grown in
-            subst
-            (λ l. IsSound kind (record { setup = g.setup; older = l; newest = new; taken = 0 })
-            half many)
-            (sym are) (record {
-              grown = record {
-                some_room = grown.some_room;
-                full =
-                    are_full-next kind g.setup [] g.older g.newest grown.full
-                    (subst (λ n. Took kind g.setup g.older n g.newest)
-                    (omega (arith, grown.most, full))
-                    grown.newest);
-                newest =
-                    took-none kind g.setup (g.older ++ g.newest ∷ []) new
-                    (subst (λ n. IsNumber kind g.setup n new) (sym more) number);
-                most = omega arith;
-              };
-              key = kept.key;
-              num = num ∙ kept.num;
-              den = den ∙ next-den ∙ ap (den_at g.setup.rate) (sym more);
-              newest_is = is_room ∙ next-room ∙ ap (room_at g.setup.room) (sym more);
-            })
+  -- the next filter keeps the rule, if the newest was full
+  pub kept-begins : (made new : Filter (CloneBuildHasher RandomDefaultHasher)) (half : Rate)
+      (many : ℕ) → new ≡ made → IsMadeAs kind g.setup (length g.older + 1) made half many
+      → (items : List (Filter (CloneBuildHasher RandomDefaultHasher)))
+      → items ≡ g.older ++ g.newest ∷ [] → newest_room g ≤ g.taken
+      → IsSound kind (record { setup = g.setup; older = items; newest = new; taken = 0 }) half many
+  kept-begins made new half many is next items are full =
+      let grown = kept.grown in
+      let more : length items ≡ length g.older + 1 =
+      ap length are ∙ length-append g.older (g.newest ∷ []) in
+      record {
+        grown = record {
+          some_room = grown.some_room;
+          full =
+              subst (AreFull kind g.setup []) (sym are)
+              (are_full-next kind g.setup [] g.older g.newest grown.full
+              (subst (λ n. Took kind g.setup g.older n g.newest) (omega (arith, grown.most, full))
+              grown.newest));
+          newest =
+              took-none kind g.setup items new
+              (subst (λ f. IsNumber kind g.setup (length items) f) (sym is)
+              (subst (λ n. IsNumber kind g.setup n made) (sym more) next.number));
+          most = omega arith;
+        };
+        key = kept.key;
+        num = next.num;
+        den = next.den ∙ ap (den_at g.setup.rate) (sym more);
+        newest_is = next.is_room ∙ ap (room_at g.setup.room) (sym more);
+      }
 
   -- the newest filter with one more hash keeps the rule
   pub kept-adds : (hash : ℕ) (new : Filter (CloneBuildHasher RandomDefaultHasher))

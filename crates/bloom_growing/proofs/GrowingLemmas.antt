@@ -19,10 +19,6 @@ room_at-next room i = rw (add-one, pow-suc 2 i) (omega arith)
 pub den_at-next : (rate : Rate) (i : ℕ) → den_at rate (i + 1) ≡ den_at rate i * 2
 den_at-next rate i = room_at-next (den_of rate) (i + 1)
 
--- the first filter has half the rate
-pub den_at-first : (rate : Rate) → den_at rate 0 ≡ den_of rate * 2
-den_at-first rate = omega arith
-
 -- the filters contain a hash if an older one or the newest does
 pub has-or : {S : Type 0} (kind : Kind) (g : Growing S) (hash : ℕ)
     → has kind g hash ≡ (any_contains kind g.older hash || contains_in kind g.newest hash)

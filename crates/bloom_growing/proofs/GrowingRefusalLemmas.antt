@@ -1,15 +1,28 @@
 -- Why the next filter of one that grows is refused.
 use Rattle.std.proofs.Common.{◌≡◌, ℕ, ◌^◌, ◌<◌, ◌≤◌, max, Option, Some, None, refl, ap, subst, arith}
+use Rattle.std.specs.Prelude.{MatchOption}
 use Rattle.bloom_parts.specs.declared.error.FilterError.{FilterError}
 use Rattle.bloom_parts.specs.declared.error.FilterError.TheVariants.{Memory}
 use Rattle.bloom_parts.specs.declared.math.rate.Rate.{Rate}
 use Rattle.bloom_parts.specs.Rates.{num_of, den_of}
 use Rattle.bloom_plain.specs.Builders.{RefusesAs}
-use Rattle.bloom_growing.specs.Growing.{room_at, den_at}
+use Rattle.bloom_growing.specs.Growing.{IsNext, room_at, den_at}
 use Rattle.bloom_growing.specs.GrowingInserts.{of_builders, RefusesNumber}
 use Rattle.bloom_growing.specs.Kinds.{Kind, IsSizeIn, size_refusal_in}
 use Rattle.bloom_growing.specs.declared.growing.error.GrowingError.{GrowingError}
-use Rattle.bloom_growing.specs.declared.growing.error.GrowingError.TheVariants.{RateOverflow, TooManyItems}
+use Rattle.bloom_growing.specs.declared.growing.error.GrowingError.TheVariants.{RateOverflow, TooManyItems, Filter}
+
+-- the room of a number of which it is told
+pub room-of : (rate last : Rate) (room i many : ℕ) (told : Option ℕ) → told ≡ Some many
+    → IsNext rate room i last told → many ≡ room_at room i
+room-of rate last room i many told is next =
+    subst (λ o. MatchOption o (2 ^ 64 ≤ room_at room i) (λ n. n ≡ room_at room i)) is next.fits
+
+-- and one that is no number of 64 bits
+pub room-past : (rate last : Rate) (room i : ℕ) (told : Option ℕ) → told ≡ None
+    → IsNext rate room i last told → 2 ^ 64 ≤ room_at room i
+room-past rate last room i told is next =
+    subst (λ o. MatchOption o (2 ^ 64 ≤ room_at room i) (λ n. n ≡ room_at room i)) is next.fits
 
 module _ (kind : Kind) (rate : Rate) (room i : ℕ) where
   -- a rate that can't be halved is refused
@@ -22,13 +35,12 @@ module _ (kind : Kind) (rate : Rate) (room i : ℕ) where
   }
 
   -- a room of 2^64 or more is refused, behind a rate that can be halved
-  pub refuses-room : (den many : ℕ) → den ≡ den_at rate i → den < 2 ^ 64
-      → many ≡ room_at room i → 2 ^ 64 ≤ many
+  pub refuses-room : (den : ℕ) → den ≡ den_at rate i → den < 2 ^ 64 → 2 ^ 64 ≤ room_at room i
       → RefusesNumber kind rate room i (Some TooManyItems)
-  refuses-room den many is small is_room large = record {
+  refuses-room den is small large = record {
     rate_refused = λ big. absurd (omega (arith, big, is, small));
     room_refused = λ _ _. refl;
-    size_refused = λ _ few. absurd (omega (arith, few, is_room, large));
+    size_refused = λ _ few. absurd (omega (arith, few, large));
   }
 
   -- a size is refused as the builders refuse it
@@ -54,7 +66,19 @@ module _ (kind : Kind) (rate : Rate) (room i : ℕ) where
   }
 
 -- where nothing is refused, memory may be
-pub refuses-memory : (refusal : Option FilterError) → RefusesAs refusal None
-    → RefusesAs refusal (Some Memory)
-refuses-memory None refused = refl
-refuses-memory (Some e) refused = cc
+pub refuses-memory : (kind : Kind) (rate : Rate) (room i : ℕ) → RefusesNumber kind rate room i None
+    → RefusesNumber kind rate room i (Some (Filter Memory))
+refuses-memory kind rate room i none = record {
+  rate_refused = λ big. let wrong = none.rate_refused big in cc;
+  room_refused = λ small large. let wrong = none.room_refused small large in cc;
+  size_refused = λ small few.
+      let size = none.size_refused small few in
+      let told = memory (size_refusal_in kind size.0) size.2 size.3 size.4 in
+      (size.0, size.1, Some Memory, told, refl);
+}
+  where
+    memory : (listed refusal : Option FilterError) → RefusesAs listed refusal
+        → None ≡ of_builders refusal → RefusesAs listed (Some Memory)
+    memory None refusal refused is = refl
+    memory (Some e) (Some f) refused is = absurd (let wrong : None ≡ Some (Filter f) = is in cc)
+    memory (Some e) None refused is = absurd (let wrong : None ≡ Some e = refused in cc)

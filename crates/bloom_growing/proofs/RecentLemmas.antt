@@ -1,6 +1,6 @@
 -- What a filter that rotates still contains of the hashes that came.
 use Rattle.std.proofs.Common.{◌≡◌, ◌⊎◌, inl, inr, ◌+◌, ◌<◌, ◌≤◌, ℕ, Bool, true, false, ◌||◌, List, [], ◌∷◌, ◌++◌, length, nat_eq, refl, sym, ◌∙◌, ap, subst, length-append, arith}
-use Rattle.std.proofs.lemmas.Bool.{cases_lt, true≢false}
+use Rattle.std.proofs.lemmas.Bool.{cases_lt, or_left, or_right, true≢false}
 use Rattle.std.proofs.lemmas.List.{append-nil, append_assoc}
 use Rattle.std.specs.Cmp.{unsigned_Decides}
 use Rattle.std.specs.Set.{distinct_count, is_member}
@@ -34,17 +34,9 @@ holds-none kind r = record {
         let lengths : 0 ≡ length (front ++ hash ∷ behind) = ap length cut in
         omega (arith, lengths, length-append front (hash ∷ behind))
 
-or-true-right : (a b : Bool) → b ≡ true → (a || b) ≡ true
-or-true-right true b is = refl
-or-true-right false b is = is
-
-or-true-left : (a b : Bool) → a ≡ true → (a || b) ≡ true
-or-true-left true b is = refl
-or-true-left false b is = absurd (true≢false (sym is))
-
 or-more : (a b c : Bool) → (a ≡ true → c ≡ true) → (a || b) ≡ true → (c || b) ≡ true
-or-more true b c more is = or-true-left c b (more refl)
-or-more false b c more is = or-true-right c b is
+or-more true b c more is = or_left c b (more refl)
+or-more false b c more is = or_right c b is
 
 module _ {S : Type 0} (kind : Kind) (old : Rotating S) (hash : ℕ) (came : List ℕ)
     (holds : Holds kind old came) where
@@ -118,7 +110,7 @@ module _ {S : Type 0} (kind : Kind) (old : Rotating S) (hash : ℕ) (came : List
       both : (front behind : List ℕ) (other : ℕ) → count behind < old.setup.room
           → Cut front behind other → either_contains kind old other ≡ true
       both front behind other few (inl same) =
-          or-true-left (contains_in kind old.newer other) (contains_in kind old.older other)
+          or_left (contains_in kind old.newer other) (contains_in kind old.older other)
           (subst (λ h. contains_in kind old.newer h ≡ true) (sym same) has)
       both front behind other few (inr is) =
           holds.both front is.0 other is.2
@@ -138,7 +130,7 @@ module _ {S : Type 0} (kind : Kind) (old : Rotating S) (hash : ℕ) (came : List
       both : (front behind : List ℕ) (other : ℕ) → count behind < new.setup.room
           → Cut front behind other → either_contains kind new other ≡ true
       both front behind other few (inl same) =
-          or-true-left (contains_in kind new.newer other) (contains_in kind new.older other)
+          or_left (contains_in kind new.newer other) (contains_in kind new.older other)
           (subst (λ h. contains_in kind new.newer h ≡ true) (sym same)
           (insert-found kind old.newer new.newer hash false fills.newer))
       both front behind other few (inr is) =
@@ -162,7 +154,7 @@ module _ {S : Type 0} (kind : Kind) (old : Rotating S) (hash : ℕ) (came : List
   turned new absent turns setup full = record {
     newer = λ front behind other cut few. absurd (omega (arith, few, turns.taken));
     both = λ front behind other cut few.
-        or-true-right (contains_in kind new.newer other) (contains_in kind new.older other)
+        or_right (contains_in kind new.newer other) (contains_in kind new.older other)
         (filled-has new.older turns.older absent front behind other cut
         (omega (arith, few, ap (λ p. p.room) setup, full)));
   }

@@ -14,7 +14,7 @@ use Rattle.bloom_growing.specs.Kinds.{Kind, InsertsIn}
 use Rattle.bloom_growing.specs.Rotating.{Rotating, older_taken, IsRotating}
 use Rattle.bloom_growing.proofs.GrowingLemmas.{took-none, took-next}
 use Rattle.bloom_growing.proofs.GrowingRateLemmas.{bounds-none, bounds-push}
-use Rattle.bloom_growing.proofs.KindLemmas.{made-zeros, new-hasher, new-shape}
+use Rattle.bloom_growing.proofs.KindLemmas.{made-zeros, new-hasher, new-shape, same-filter}
 
 -- a filter that was cleared is the one that was made, as words have 64 bits
 cleared-made : {S : Type 0} (kind : Kind) (setup : Setup S) (count : ℕ) (old new : Filter S)
@@ -28,13 +28,12 @@ cleared-made kind setup count old new law fit took clears =
     let shape = new-shape kind made took.hashes old took.did in
     let fit' : AreWords made.words =
     subst AreWords (sym zeros.1) (All-replicate (λ w. w < 2 ^ 64) zeros.0 0 (lit< tt)) in
-    let words : new.words ≡ made.words =
-    (law new.words made.words fit fit' (sym (shape.words ∙ clears.shape.words))).1
-    (λ p. clears.bits p ∙ sym (ap (λ w. content w p) zeros.1 ∙ content-zeros zeros.0 p)) in
-    let hashes : new.hashes ≡ made.hashes = sym (shape.hashes ∙ clears.shape.hashes) in
-    let hasher : new.hasher ≡ made.hasher =
-    clears.hasher ∙ new-hasher kind made took.hashes old took.did in
-    λ i. record { words = words i; hashes = hashes i; hasher = hasher i }
+    same-filter made new law fit' fit (record {
+      words = shape.words ∙ clears.shape.words;
+      hashes = shape.hashes ∙ clears.shape.hashes;
+    })
+    (clears.hasher ∙ new-hasher kind made took.hashes old took.did)
+    (λ p. clears.bits p ∙ sym (ap (λ w. content w p) zeros.1 ∙ content-zeros zeros.0 p))
 
 -- so it took no hash
 took-cleared : {S : Type 0} (kind : Kind) (setup : Setup S) (count : ℕ) (old new : Filter S)

@@ -1,7 +1,7 @@
 -- A filter that grows: Bloom filters one after the other, each for twice the items of the one
 -- before it at half its rate (P. S. Almeida, C. Baquero, N. Preguiça and D. Hutchison, "Scalable
 -- Bloom Filters", 2007, with growth 2 and tightening 1/2).
-use Rattle.std.specs.Prelude.{◌≡◌, ℕ, ◌+◌, ◌*◌, ◌^◌, ◌≤◌, Bool, false, List, [], ◌∷◌, ◌++◌, length, All, ⊤}
+use Rattle.std.specs.Prelude.{◌≡◌, ℕ, ◌+◌, ◌*◌, ◌^◌, ◌≤◌, Bool, false, List, [], ◌∷◌, ◌++◌, length, All, Option, MatchOption, ⊤}
 use Rattle.std.specs.List.{list_any}
 use Rattle.bloom_parts.specs.declared.hasher.CloneBuildHasher.{CloneBuildHasher}
 use Rattle.bloom_parts.specs.declared.hasher.sip.RandomDefaultHasher.{RandomDefaultHasher}
@@ -56,6 +56,21 @@ pub record IsNumber {S : Type 0} (kind : Kind) (setup : Setup S) (i : ℕ) (made
     pub num : num_of rate ≡ num_of setup.rate
     pub den : den_of rate ≡ den_at setup.rate i
     pub is_made : IsMadeIn kind (rate_start rate setup.hasher) (room_at setup.room i) made
+
+-- the rate whose half filter number i has, and its room, which may be no number of 64 bits
+pub record IsNext (rate : Rate) (room i : ℕ) (last : Rate) (many : Option ℕ) : Type 0 where
+  pub num : num_of last ≡ num_of rate
+  pub den : den_of last * 2 ≡ den_at rate i
+  pub some : 1 ≤ room_at room i
+  pub fits : MatchOption many (2 ^ 64 ≤ room_at room i) (λ n. n ≡ room_at room i)
+
+-- this is filter number i, its rate and its room
+pub record IsMadeAs {S : Type 0} (kind : Kind) (setup : Setup S) (i : ℕ) (made : Filter S)
+    (rate : Rate) (room : ℕ) : Type 0 where
+  pub number : IsNumber kind setup i made
+  pub num : num_of rate ≡ num_of setup.rate
+  pub den : den_of rate ≡ den_at setup.rate i
+  pub is_room : room ≡ room_at setup.room i
 
 -- whether one of some filters contains a hash
 abbrev pub any_contains : {S : Type 0} → Kind → List (Filter S) → ℕ → Bool

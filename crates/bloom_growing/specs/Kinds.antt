@@ -4,8 +4,8 @@ use Rattle.std.specs.Prelude.{◌≡◌, ℕ, Bool, false, List, [], ◌∷◌, 
 use Rattle.bloom_parts.specs.declared.error.FilterError.{FilterError}
 use Rattle.bloom_parts.specs.Sizing.{IsSizeFor}
 use Rattle.bloom_plain.specs.Builders.{RateStart, IsMadeFor, size_refusal}
-use Rattle.bloom_plain.specs.Filter.{Filter, contains, Inserts}
-use Rattle.bloom_blocked.specs.Blocked.{contains_in_line, InsertsInLine}
+use Rattle.bloom_plain.specs.Filter.{Filter, Placement, anywhere, contains_by, InsertsBy}
+use Rattle.bloom_blocked.specs.Blocked.{in_lines}
 use Rattle.bloom_blocked.specs.BlockedSizing.{IsSizeInLines, IsMadeInLinesFor, line_size_refusal}
 
 -- the kind of a filter: the positions of a hash lie anywhere, or all in one line of 512 bits
@@ -13,15 +13,18 @@ pub data Kind : Type 0 where
   Plain : Kind
   Blocked : Kind
 
+-- where a filter of a kind has the positions of a hash
+abbrev pub placement_of : Kind → Placement
+placement_of Plain = anywhere
+placement_of Blocked = in_lines
+
 -- whether a filter contains a hash
 abbrev pub contains_in : {S : Type 0} → Kind → Filter S → ℕ → Bool
-contains_in Plain f hash = contains f hash
-contains_in Blocked f hash = contains_in_line f hash
+contains_in kind f hash = contains_by (placement_of kind) f hash
 
 -- an insert took the old filter to the new, with this reply
 abbrev pub InsertsIn : {S : Type 0} → Kind → Filter S → ℕ → Filter S → Bool → Type 0
-InsertsIn Plain old hash new reply = Inserts old hash new reply
-InsertsIn Blocked old hash new reply = InsertsInLine old hash new reply
+InsertsIn kind old hash new reply = InsertsBy (placement_of kind) old hash new reply
 
 -- from old to new the hashes of a list were inserted, in order. None of them was contained when it
 -- came

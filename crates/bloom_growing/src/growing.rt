@@ -20,7 +20,7 @@ use bloom_parts::hasher::DefaultHasher;
 use bloom_parts::math::Rate;
 use bloom_plain::BloomFilter;
 pub use error::GrowingError;
-use filters::{any_contains, half, make};
+use filters::{any_contains, make_next};
 use std::alloc::Global;
 use std::marker::Model;
 use std::mem;
@@ -127,18 +127,17 @@ impl<F: GrowableFilter> GrowingFilterOf<F> {
         ensures begun { IfOk result (λ g. IsBegun F.kind (setup_of rate (max 1 items) hasher) g) }
         ensures refused { RefusesNumber F.kind rate (max 1 items) 0 (result_err result) }
     {
-        let newest_rate = half(rate)?;
-        let room = items.max(1);
-        let newest = make(alloc, newest_rate, room, &hasher)?;
+        let items = items.max(1);
+        let first = make_next(alloc, rate, Some(items), &hasher)?;
         Ok(GrowingFilterOf {
             rate,
-            items: room,
+            items,
             hasher,
             older: Vec::new(alloc),
-            newest,
+            newest: first.0,
             taken: 0,
-            newest_rate,
-            room,
+            newest_rate: first.1,
+            room: first.2,
         })
     }
 
@@ -153,16 +152,13 @@ impl<F: GrowableFilter> GrowingFilterOf<F> {
         ensures refused { RefusesNumber F.kind self.old.setup.rate self.old.setup.room
             (length self.old.older + 1) (result_err result) }
     {
-        let rate = half(self.newest_rate)?;
-        let Some(room) = self.room.checked_mul(2) else {
-            return Err(GrowingError::TooManyItems);
-        };
-        let made = make(alloc, rate, room, &self.hasher)?;
+        let room = self.room.checked_mul(2);
+        let next = make_next(alloc, self.newest_rate, room, &self.hasher)?;
         self.older.reserve(1)?;
-        let full = mem::replace(&mut self.newest, made);
+        let full = mem::replace(&mut self.newest, next.0);
         self.older.push_reserved(full);
-        self.newest_rate = rate;
-        self.room = room;
+        self.newest_rate = next.1;
+        self.room = next.2;
         self.taken = 0;
         Ok(())
     }

@@ -14,7 +14,7 @@ mod rates;
 
 use crate::growable::GrowableFilter;
 use crate::growing::GrowingError;
-use crate::growing::filters::{half, make};
+use crate::growing::filters::make_next;
 use bloom_blocked::BlockedBloomFilter;
 use bloom_parts::hasher::DefaultHasher;
 use bloom_parts::laws::content_of_words;
@@ -125,16 +125,15 @@ impl<F: GrowableFilter> RotatingFilterOf<F> {
         ensures unused { IfOk result (λ r. IsUnused F.kind (setup_of rate (max 1 items) hasher) r) }
         ensures refused { RefusesNumber F.kind rate (max 1 items) 0 (result_err result) }
     {
-        let half_rate = half(rate)?;
         let room = items.max(1);
-        let older = make(alloc, half_rate, room, &hasher)?;
-        let newer = make(alloc, half_rate, room, &hasher)?;
+        let older = make_next(alloc, rate, Some(room), &hasher)?;
+        let newer = make_next(alloc, rate, Some(room), &hasher)?;
         Ok(RotatingFilterOf {
             rate,
             room,
             hasher,
-            older,
-            newer,
+            older: older.0,
+            newer: newer.0,
             taken: 0,
             turns: 0,
         })

@@ -10,28 +10,14 @@ use Rattle.bloom_parts.specs.Buffers.{AreBytes, padded, held_in, IsPadded}
 -- zeros behind bytes count for nothing, and the eighth byte is the top one
 pub topped : (bytes : List ℕ) (top : ℕ) → length bytes < 8
     → from_le_bytes w64 (set (padded bytes) 7 top) ≡ from_le_bytes w64 bytes + top * 2 ^ 56
-topped [] top few = omega arith
-topped (a ∷ []) top few = omega arith
-topped (a ∷ b ∷ []) top few = omega arith
-topped (a ∷ b ∷ c ∷ []) top few = omega arith
-topped (a ∷ b ∷ c ∷ d ∷ []) top few = omega arith
-topped (a ∷ b ∷ c ∷ d ∷ e ∷ []) top few = omega arith
-topped (a ∷ b ∷ c ∷ d ∷ e ∷ f ∷ []) top few = omega arith
-topped (a ∷ b ∷ c ∷ d ∷ e ∷ f ∷ g ∷ []) top few = omega arith
 topped (a ∷ b ∷ c ∷ d ∷ e ∷ f ∷ g ∷ h ∷ bytes) top few = absurd (omega arith)
+topped _ top few = omega arith
 
 -- the zeros of a buffer count for nothing
 padded-value : (bytes : List ℕ) → length bytes < 8
     → from_le_bytes w64 (padded bytes) ≡ from_le_bytes w64 bytes
-padded-value [] few = refl
-padded-value (a ∷ []) few = refl
-padded-value (a ∷ b ∷ []) few = refl
-padded-value (a ∷ b ∷ c ∷ []) few = refl
-padded-value (a ∷ b ∷ c ∷ d ∷ []) few = refl
-padded-value (a ∷ b ∷ c ∷ d ∷ e ∷ []) few = refl
-padded-value (a ∷ b ∷ c ∷ d ∷ e ∷ f ∷ []) few = refl
-padded-value (a ∷ b ∷ c ∷ d ∷ e ∷ f ∷ g ∷ []) few = refl
 padded-value (a ∷ b ∷ c ∷ d ∷ e ∷ f ∷ g ∷ h ∷ bytes) few = absurd (omega arith)
+padded-value _ few = refl
 
 -- a number has room for one byte more, just above its bytes
 record HasRoom (bytes : List ℕ) (byte : ℕ) : Type 0 where
@@ -43,43 +29,12 @@ record HasRoom (bytes : List ℕ) (byte : ℕ) : Type 0 where
 -- fewer than eight bytes leave room for one
 has_room : (bytes : List ℕ) (byte : ℕ) → AreBytes bytes → byte < 256 → length bytes < 8
     → HasRoom bytes byte
-has_room [] byte small last few =
-    record { below = omega arith; fits = omega arith; more = omega arith }
-has_room (a ∷ []) byte small last few =
-    record { below = omega (arith, small 0); fits = omega arith; more = omega arith }
-has_room (a ∷ b ∷ []) byte small last few =
-    record { below = omega (arith, small 0, small 1); fits = omega arith; more = omega arith }
-has_room (a ∷ b ∷ c ∷ []) byte small last few =
-    record {
-      below = omega (arith, small 0, small 1, small 2);
-      fits = omega arith;
-      more = omega arith;
-    }
-has_room (a ∷ b ∷ c ∷ d ∷ []) byte small last few =
-    record {
-      below = omega (arith, small 0, small 1, small 2, small 3);
-      fits = omega arith;
-      more = omega arith;
-    }
-has_room (a ∷ b ∷ c ∷ d ∷ e ∷ []) byte small last few =
-    record {
-      below = omega (arith, small 0, small 1, small 2, small 3, small 4);
-      fits = omega arith;
-      more = omega arith;
-    }
-has_room (a ∷ b ∷ c ∷ d ∷ e ∷ f ∷ []) byte small last few =
-    record {
-      below = omega (arith, small 0, small 1, small 2, small 3, small 4, small 5);
-      fits = omega arith;
-      more = omega arith;
-    }
-has_room (a ∷ b ∷ c ∷ d ∷ e ∷ f ∷ g ∷ []) byte small last few =
-    record {
-      below = omega (arith, small 0, small 1, small 2, small 3, small 4, small 5, small 6);
-      fits = omega arith;
-      more = omega arith;
-    }
 has_room (a ∷ b ∷ c ∷ d ∷ e ∷ f ∷ g ∷ h ∷ bytes) byte small last few = absurd (omega arith)
+has_room _ byte small last few = record {
+  below = omega (arith, small 0, small 1, small 2, small 3, small 4, small 5, small 6);
+  fits = omega arith;
+  more = omega arith;
+}
 
 -- what the code does to put one byte more above a number
 or-above : (bytes : List ℕ) (byte word at : ℕ) → AreBytes bytes → byte < 256 → length bytes < 8

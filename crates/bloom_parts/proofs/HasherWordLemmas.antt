@@ -1,5 +1,5 @@
 -- A hasher from its eight words: the first bytes of a word, and the bytes that a word stores.
-use Rattle.std.proofs.Common.{◌≡◌, ℕ, zero, suc, ◌-◌, ◌*◌, ◌%◌, ◌^◌, ◌<◌, List, [], ◌∷◌, length, take, slice_index_or, bit_and, mod-eq_of_lt, refl, sym, ◌∙◌, ap, arith, lit<, length-take}
+use Rattle.std.proofs.Common.{◌≡◌, ℕ, zero, suc, ◌-◌, ◌*◌, ◌%◌, ◌^◌, ◌<◌, List, ◌∷◌, length, take, slice_index_or, bit_and, mod-eq_of_lt, refl, sym, ◌∙◌, ap, arith, lit<, length-take}
 use Rattle.std.proofs.Math.Pow.{pow-lt}
 use Rattle.std.proofs.lemmas.Nat.{and_mask, mod-pow-add}
 use Rattle.std.specs.Int.{w64, from_le_bytes, to_le_bytes}
@@ -13,39 +13,17 @@ use Rattle.bloom_parts.proofs.SipLemmas.{length-rest}
 -- the first bytes of a number, fewer than eight, are those of the number modulo their power
 take-value : (word n : ℕ) → n < 8
     → from_le_bytes w64 (take n (to_le_bytes w64 word)) ≡ word % 2 ^ (8 * n)
+take-value word (suc (suc (suc (suc (suc (suc (suc (suc n)))))))) few = absurd (omega arith)
 take-value word zero few = omega arith
 take-value word (suc zero) few = omega arith
-take-value word (suc (suc zero)) few =
-    let fewer = take-value word (suc zero) (lit< tt) in
-    omega (arith, fewer, mod-pow-add word 8 8)
-take-value word (suc (suc (suc zero))) few =
-    let fewer = take-value word (suc (suc zero)) (lit< tt) in
-    omega (arith, fewer, mod-pow-add word 8 16)
-take-value word (suc (suc (suc (suc zero)))) few =
-    let fewer = take-value word (suc (suc (suc zero))) (lit< tt) in
-    omega (arith, fewer, mod-pow-add word 8 24)
-take-value word (suc (suc (suc (suc (suc zero))))) few =
-    let fewer = take-value word (suc (suc (suc (suc zero)))) (lit< tt) in
-    omega (arith, fewer, mod-pow-add word 8 32)
-take-value word (suc (suc (suc (suc (suc (suc zero)))))) few =
-    let fewer = take-value word (suc (suc (suc (suc (suc zero))))) (lit< tt) in
-    omega (arith, fewer, mod-pow-add word 8 40)
-take-value word (suc (suc (suc (suc (suc (suc (suc zero))))))) few =
-    let fewer = take-value word (suc (suc (suc (suc (suc (suc zero)))))) (lit< tt) in
-    omega (arith, fewer, mod-pow-add word 8 48)
-take-value word (suc (suc (suc (suc (suc (suc (suc (suc n)))))))) few = absurd (omega arith)
+take-value word (suc n) few =
+    let fewer = take-value word n (omega arith) in
+    omega (arith, fewer, mod-pow-add word 8 (8 * n))
 
 -- the bytes of a number are bytes
 AreBytes-number : (word : ℕ) → AreBytes (to_le_bytes w64 word)
-AreBytes-number word zero = omega arith
-AreBytes-number word (suc zero) = omega arith
-AreBytes-number word (suc (suc zero)) = omega arith
-AreBytes-number word (suc (suc (suc zero))) = omega arith
-AreBytes-number word (suc (suc (suc (suc zero)))) = omega arith
-AreBytes-number word (suc (suc (suc (suc (suc zero))))) = omega arith
-AreBytes-number word (suc (suc (suc (suc (suc (suc zero)))))) = omega arith
-AreBytes-number word (suc (suc (suc (suc (suc (suc (suc zero))))))) = omega arith
 AreBytes-number word (suc (suc (suc (suc (suc (suc (suc (suc i)))))))) = lit< tt
+AreBytes-number word _ = omega arith
 
 -- a number of which only the first bytes are left stores these
 pub stores-first : (buffer : List ℕ) (word count : ℕ)
@@ -70,14 +48,7 @@ AreBytes-rest : (bytes : List ℕ) → AreBytes bytes → AreBytes (rest bytes)
 unfolding rest
 AreBytes-rest (a ∷ b ∷ c ∷ d ∷ e ∷ f ∷ g ∷ h ∷ bytes) small =
     AreBytes-rest bytes (λ i. small (suc (suc (suc (suc (suc (suc (suc (suc i)))))))))
-AreBytes-rest [] small = small
-AreBytes-rest (a ∷ []) small = small
-AreBytes-rest (a ∷ b ∷ []) small = small
-AreBytes-rest (a ∷ b ∷ c ∷ []) small = small
-AreBytes-rest (a ∷ b ∷ c ∷ d ∷ []) small = small
-AreBytes-rest (a ∷ b ∷ c ∷ d ∷ e ∷ []) small = small
-AreBytes-rest (a ∷ b ∷ c ∷ d ∷ e ∷ f ∷ []) small = small
-AreBytes-rest (a ∷ b ∷ c ∷ d ∷ e ∷ f ∷ g ∷ []) small = small
+AreBytes-rest _ small = small
 
 -- the hasher of eight words, with a buffer for the bytes behind the whole words
 abbrev pub of_eight : List ℕ → List ℕ → SipState

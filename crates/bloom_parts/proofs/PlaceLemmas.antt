@@ -4,6 +4,7 @@ use Rattle.std.proofs.lemmas.Bool.{cases_lt, or_cases, and_parts, and_from, or_l
 use Rattle.std.proofs.Math.Nat.{div-lt_iff_lt-mul, mul-lt-mul_of_pos_right, mul_comm}
 use Rattle.bloom_parts.specs.Chain.{chain}
 use Rattle.bloom_parts.specs.Places.{place, positions, are_in, IsPosition, IsPart, PositionsLaw, SubsetLaw, RangeLaw}
+use Rattle.bloom_parts.proofs.StretchLemmas.{are_in_from-start, part-of, positions_from-start}
 
 -- a position is one of the places
 pub position-from : (n k hash p : ℕ) → positions n k hash p ≡ true → IsPosition n k hash p
@@ -44,14 +45,9 @@ positions_law n k hash p = (position-from n k hash p, position-to n k hash p)
 -- where all are in a set, their positions are a part of it
 pub part-from : (n k hash : ℕ) (A : ℕ → Bool) → are_in n k hash A ≡ true
     → IsPart (positions n k hash) A
-unfolding positions are_in
-part-from n zero hash A all p is = absurd (both_ways false refl is)
-part-from n (suc k) hash A all p is =
-    let parts = and_parts (are_in n k hash A) (A (place n hash k)) all in
-    elim (or_cases (positions n k hash p) (eqb p (place n hash k)) is) [
-      | inl earlier ↦ part-from n k hash A parts.0 p earlier
-      | inr here ↦ ap A (eqb-true p (place n hash k) here) ∙ parts.1
-    ]
+part-from n k hash A all p is =
+    part-of n 0 k hash A (are_in_from-start n k hash A ∙ all) p
+    (positions_from-start n k hash p ∙ is)
 
 -- where the positions of a hash are a part of a set, all its places are in it
 pub part-to : (n k hash : ℕ) (A : ℕ → Bool) → IsPart (positions n k hash) A

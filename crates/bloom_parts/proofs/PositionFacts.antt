@@ -1,17 +1,16 @@
 -- Words as sets of positions, and the positions of hashes, at values from outside: for each
 -- definition that public clauses cite a case that holds and cases as near as can be that don't.
 -- The hash 1 has the positions 0, 20, 32 and 29 among 64, and the hash 0 has position 0 alone.
-use Rattle.std.proofs.Common.{◌≡◌, ℕ, zero, suc, ◌+◌, ◌-◌, ◌^◌, ◌<◌, ◌≤◌, ◌&&◌, Bool, true, false, not, [], ◌∷◌, nat_lt, slice_index, refl, sym, ◌∙◌, ap, arith, lit<, lit≤}
-use Rattle.std.proofs.lemmas.Bool.{both_ways, le-ltb}
+use Rattle.std.proofs.Common.{◌≡◌, ℕ, zero, suc, ◌+◌, ◌-◌, ◌^◌, ◌<◌, ◌≤◌, Bool, true, false, [], ◌∷◌, slice_index, refl, sym, arith, lit<, lit≤}
+use Rattle.std.proofs.lemmas.Bool.{both_ways}
 use Rattle.bloom_parts.specs.Chain.{chain, IsAt}
 use Rattle.bloom_parts.specs.Content.{content, index_of, AreWords, EqualWordsLaw, BoundLaw}
 use Rattle.bloom_parts.specs.Counts.{count_on}
-use Rattle.bloom_parts.specs.Many.{TellsFound, TellsNew, after_first}
+use Rattle.bloom_parts.specs.Many.{TellsFound, TellsNew, is_new}
 use Rattle.bloom_parts.specs.Places.{place, positions, are_in, IsPosition, IsPart, PositionsLaw, SubsetLaw, RangeLaw}
 use Rattle.bloom_parts.specs.Shares.{share_start, IsOnly, ShareLaw, ReachedLaw, EvenLaw}
-use Rattle.bloom_parts.proofs.BitSetLemmas.{bits-next, content-where}
+use Rattle.bloom_parts.proofs.BitSetLemmas.{bits-next, content-where, no-bit}
 use Rattle.bloom_parts.proofs.PlaceLemmas.{part-from}
-use Rattle.bloom_parts.proofs.PublishedLemmas.{content-zeros}
 
 -- the source hash comes first, and sums are truncated to 64 bits
 chain-cases : (chain 1 0 ≡ 0x0000_0000_0000_0001) × (chain 1 1 ≡ 0x517c_c1b7_2722_0ab5)
@@ -148,10 +147,6 @@ from_even : EvenLaw → (i j : ℕ) → share_start 3 (i + 1) - share_start 3 i
     ≤ share_start 3 (j + 1) - share_start 3 j + 1
 from_even law i j = law 3 i j (lit< tt)
 
--- no bit is told below the first
-no-bit : (F : ℕ → Bool) (p : ℕ) → content (0 ∷ []) p ≡ (nat_lt p 0 && F p)
-no-bit F p = content-zeros 1 p ∙ ap (λ b. b && F p) (sym (le-ltb p 0 (omega arith)))
-
 -- the bit of a hash that is contained is set, and neither that of one that isn't, nor one past the
 -- hashes
 tells_found-cases : TellsFound 64 1 (content (1 ∷ [])) (0 ∷ []) (1 ∷ [])
@@ -185,5 +180,4 @@ tells_new-cases = (
 )
   where
     new : ℕ → Bool
-    new i = not (are_in 64 1 (slice_index (0 ∷ 0 ∷ []) i)
-        (after_first 64 1 (content (0 ∷ [])) (0 ∷ 0 ∷ []) i))
+    new = is_new (positions 64 1) (are_in 64 1) (content (0 ∷ [])) (0 ∷ 0 ∷ [])

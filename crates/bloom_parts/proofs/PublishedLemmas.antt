@@ -24,8 +24,9 @@ pub use Rattle.bloom_parts.proofs.SetLemmas.{content-zeros}
 pub use Rattle.bloom_parts.proofs.DeciderLemmas.{last_decision-append, state-append}
 pub use Rattle.bloom_parts.proofs.DeciderLemmas.{unwrap_or-option_or}
 -- the positions of many hashes, in a filter of any kind, and bit sets that are filled bit by bit
-pub use Rattle.bloom_parts.proofs.ManyLemmas.{many-contained, many-next, many-stretch}
-pub use Rattle.bloom_parts.proofs.BitSetLemmas.{bits-next}
+pub use Rattle.bloom_parts.proofs.ManyLemmas.{adds-nothing, many-contained, many-join, many-next}
+pub use Rattle.bloom_parts.proofs.ManyLemmas.{many-stretch}
+pub use Rattle.bloom_parts.proofs.BitSetLemmas.{bits-next, content-where, no-bit}
 -- bytes and more bytes are bytes
 pub use Rattle.bloom_parts.proofs.BufferLemmas.{AreBytes-append}
 -- a word behind others adds its own bits, and no more positions are set than there are

@@ -1,5 +1,5 @@
 -- Brackets of rates of false positives, from those of shares of set bits.
-use Rattle.std.proofs.Common.{◌≡◌, ℕ, zero, suc, ◌+◌, ◌-◌, ◌*◌, ◌/◌, ◌^◌, ◌<◌, ◌≤◌, Bool, true, false, ◌||◌, eqb, if◌then◌else◌, refl, ap, ◌∙◌, arith, inl, inr, min, max}
+use Rattle.std.proofs.Common.{◌≡◌, ℕ, zero, suc, ◌+◌, ◌-◌, ◌*◌, ◌/◌, ◌^◌, ◌<◌, ◌≤◌, Bool, true, ◌||◌, eqb, if◌then◌else◌, refl, ap, ◌∙◌, arith, inl, inr, min, max}
 use Rattle.std.proofs.lemmas.Bool.{cases_lt, cond-false, ne_eqb}
 use Rattle.std.proofs.lemmas.Grind.{div_ceil_times}
 use Rattle.std.proofs.lemmas.Nat.{mul-le}
@@ -14,9 +14,8 @@ use Rattle.bloom_parts.specs.Powers.{lower_power_of, upper_power_of}
 use Rattle.bloom_parts.proofs.CountLemmas.{count-most}
 use Rattle.bloom_parts.proofs.DensityLemmas.{density-none}
 use Rattle.bloom_parts.proofs.EndLemmas.{lower-holds, upper-holds, upper-none}
-use Rattle.bloom_parts.proofs.RateEndLemmas.{false_positives-most, false_positives-mean, rate-above, rate-below, raised, raised-fits, raised-near}
+use Rattle.bloom_parts.proofs.RateEndLemmas.{false_positives-most, false_positives-mean, rate-above, rate-below, raised, raised-near}
 use Rattle.bloom_parts.proofs.MeanLemmas.{positives_law}
-use Rattle.bloom_parts.proofs.RoundingLemmas.{div_ceil-le}
 
 -- the share above one that isn't nothing
 share-some : (b k high : ℕ) → 0 < high → share_above b k high ≡ raised (2 ^ 63) b k high
@@ -141,9 +140,7 @@ either-least A B (suc n) =
         × ((if b then 1 else 0) ≤ (if a || b then 1 else 0))
         × ((if a || b then 1 else 0) ≤ (if a then 1 else 0) + (if b then 1 else 0))
     one-either true true = (omega arith, omega arith, omega arith)
-    one-either true false = (omega arith, omega arith, omega arith)
-    one-either false true = (omega arith, omega arith, omega arith)
-    one-either false false = (omega arith, omega arith, omega arith)
+    one-either _ _ = (omega arith, omega arith, omega arith)
 
 -- the greater of two lower ends of parts of one is a lower end
 max-below : (a b n u one : ℕ) → a * n ≤ u * one → b * n ≤ u * one → max a b * n ≤ u * one

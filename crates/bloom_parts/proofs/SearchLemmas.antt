@@ -1,7 +1,6 @@
 -- The search of a number that passes a test, by its binary digits from the highest on.
 use Rattle.std.proofs.Common.{◌≡◌, ◌↔◌, ℕ, suc, ◌+◌, ◌-◌, ◌^◌, ◌<◌, ◌≤◌, ◌∙◌, ap, arith}
 use Rattle.std.proofs.Math.Nat.{two-pow-succ}
-use Rattle.std.proofs.lemmas.Nat.{pow_pos}
 
 -- a number passes, and the number 2^i above it does not, where that has 64 bits
 pub record IsFound (passes : ℕ → Type 0) (found i : ℕ) : Type 0 where

@@ -12,14 +12,7 @@ use Rattle.bloom_parts.specs.Sip.{whole_words, rest}
 pub length-rest : (bytes : List ℕ) → length (rest bytes) ≡ length bytes % 8
 unfolding rest
 length-rest (a ∷ b ∷ c ∷ d ∷ e ∷ f ∷ g ∷ h ∷ bytes) = omega (arith, length-rest bytes)
-length-rest [] = refl
-length-rest (a ∷ []) = refl
-length-rest (a ∷ b ∷ []) = refl
-length-rest (a ∷ b ∷ c ∷ []) = refl
-length-rest (a ∷ b ∷ c ∷ d ∷ []) = refl
-length-rest (a ∷ b ∷ c ∷ d ∷ e ∷ []) = refl
-length-rest (a ∷ b ∷ c ∷ d ∷ e ∷ f ∷ []) = refl
-length-rest (a ∷ b ∷ c ∷ d ∷ e ∷ f ∷ g ∷ []) = refl
+length-rest _ = refl
 
 -- fewer than eight bytes are no word, and remain
 pub record IsShort (bytes : List ℕ) : Type 0 where
@@ -30,14 +23,7 @@ pub record IsShort (bytes : List ℕ) : Type 0 where
 pub short : (bytes : List ℕ) → length bytes < 8 → IsShort bytes
 unfolding whole_words rest
 short (a ∷ b ∷ c ∷ d ∷ e ∷ f ∷ g ∷ h ∷ bytes) few = absurd (omega arith)
-short [] few = record { words = refl; remain = refl }
-short (a ∷ []) few = record { words = refl; remain = refl }
-short (a ∷ b ∷ []) few = record { words = refl; remain = refl }
-short (a ∷ b ∷ c ∷ []) few = record { words = refl; remain = refl }
-short (a ∷ b ∷ c ∷ d ∷ []) few = record { words = refl; remain = refl }
-short (a ∷ b ∷ c ∷ d ∷ e ∷ []) few = record { words = refl; remain = refl }
-short (a ∷ b ∷ c ∷ d ∷ e ∷ f ∷ []) few = record { words = refl; remain = refl }
-short (a ∷ b ∷ c ∷ d ∷ e ∷ f ∷ g ∷ []) few = record { words = refl; remain = refl }
+short _ few = record { words = refl; remain = refl }
 
 -- behind a list, more bytes go on from what remained of it
 pub record Continues (bytes more : List ℕ) : Type 0 where
@@ -53,29 +39,14 @@ continues (a ∷ b ∷ c ∷ d ∷ e ∷ f ∷ g ∷ h ∷ bytes) more =
       words = ap (λ ws. from_le_bytes w64 (a ∷ b ∷ c ∷ d ∷ e ∷ f ∷ g ∷ h ∷ []) ∷ ws) further.words;
       remain = further.remain;
     }
-continues [] more = record { words = refl; remain = refl }
-continues (a ∷ []) more = record { words = refl; remain = refl }
-continues (a ∷ b ∷ []) more = record { words = refl; remain = refl }
-continues (a ∷ b ∷ c ∷ []) more = record { words = refl; remain = refl }
-continues (a ∷ b ∷ c ∷ d ∷ []) more = record { words = refl; remain = refl }
-continues (a ∷ b ∷ c ∷ d ∷ e ∷ []) more = record { words = refl; remain = refl }
-continues (a ∷ b ∷ c ∷ d ∷ e ∷ f ∷ []) more = record { words = refl; remain = refl }
-continues (a ∷ b ∷ c ∷ d ∷ e ∷ f ∷ g ∷ []) more = record { words = refl; remain = refl }
+continues _ more = record { words = refl; remain = refl }
 
 -- eight bytes are one word, in front of what follows
 word-first : (word bytes : List ℕ) → length word ≡ 8
     → whole_words (word ++ bytes) ≡ from_le_bytes w64 word ∷ whole_words bytes
 unfolding whole_words
 word-first (a ∷ b ∷ c ∷ d ∷ e ∷ f ∷ g ∷ h ∷ []) bytes eight = refl
-word-first (a ∷ b ∷ c ∷ d ∷ e ∷ f ∷ g ∷ h ∷ i ∷ word) bytes eight = absurd (omega arith)
-word-first [] bytes eight = absurd (omega arith)
-word-first (a ∷ []) bytes eight = absurd (omega arith)
-word-first (a ∷ b ∷ []) bytes eight = absurd (omega arith)
-word-first (a ∷ b ∷ c ∷ []) bytes eight = absurd (omega arith)
-word-first (a ∷ b ∷ c ∷ d ∷ []) bytes eight = absurd (omega arith)
-word-first (a ∷ b ∷ c ∷ d ∷ e ∷ []) bytes eight = absurd (omega arith)
-word-first (a ∷ b ∷ c ∷ d ∷ e ∷ f ∷ []) bytes eight = absurd (omega arith)
-word-first (a ∷ b ∷ c ∷ d ∷ e ∷ f ∷ g ∷ []) bytes eight = absurd (omega arith)
+word-first _ bytes eight = absurd (omega arith)
 
 -- each has eight bytes
 abbrev pub AreEights : List (List ℕ) → Type 0

@@ -14,9 +14,7 @@ same_digits zero zero p q same = refl
 same_digits zero (suc zero) p q same = absurd (both_ways false refl same)
 same_digits (suc zero) zero p q same = absurd (both_ways false refl (sym same))
 same_digits (suc zero) (suc zero) p q same = refl
-same_digits (suc (suc a)) b p q same = absurd (omega arith)
-same_digits zero (suc (suc b)) p q same = absurd (omega arith)
-same_digits (suc zero) (suc (suc b)) p q same = absurd (omega arith)
+same_digits _ _ p q same = absurd (omega arith)
 
 -- the content at bit i of word k
 pub content-at : (words : List ℕ) (k i : ℕ) → i < 64

@@ -1,5 +1,7 @@
 //! Laws of the definitions that contracts cite. These functions do nothing: their contracts are the
 //! laws.
+#![tactic(auto, using(crate::proofs::LawLemmas::laws))]
+
 ghost use Rattle.std.specs.Prelude.{ℕ, ◌<◌, slice_index};
 ghost use Rattle.bloom_parts.specs.Content.{EqualWordsLaw, BoundLaw};
 ghost use Rattle.bloom_parts.specs.Draws.{ListsLaw, MeanLaw, PositivesLaw, PowersLaw, FormulaLaw, UpperLaw};

@@ -4,57 +4,50 @@ use Rattle.std.proofs.lemmas.Bool.{eqb-true, eq-eqb}
 use Rattle.std.specs.Cmp.Lexicographic.{pointwise, same_text, nat_list_eq_equiv}
 use Rattle.std.proofs.Math.Nat.{max_comm}
 use Rattle.std.specs.Iterator.Runs.{WholeRun}
-use Rattle.bloom_parts.specs.declared.error.FilterError.{FilterError}
 use Rattle.bloom_parts.specs.Rates.{num_of, den_of}
-use Rattle.bloom_parts.specs.Sizing.{IsSizeFor}
-use Rattle.bloom_plain.specs.Builders.{RateStart, words_for, sized_filter, empty_start, size_refusal, RefusesAs, IsSizeOf, IsMadeFor}
+use Rattle.bloom_plain.specs.Builders.{Start, RateStart}
 use Rattle.bloom_plain.specs.Filter.{Filter}
 use Rattle.bloom_plain.specs.Laws.{EqualStartsLaw, EqualRateStartsLaw}
-use Rattle.bloom_plain.specs.Replies.{InsertsItems}
 
 -- what `insert_all` does with an iterator and a filter, it does with an iterator and a filter that
 -- are equal to them
-pub inserts_all-same : {S T I : Type 0} (hash_of : S → T → ℕ) (steps : I → Option T → I → Type 0)
-    (it : I) (start made filter : Filter S) → start ≡ made
-    → (same : I) × (same ≡ it)
-    × WholeRun steps same (λ run. InsertsItems hash_of start run.items filter)
-    → WholeRun steps it (λ run. InsertsItems hash_of made run.items filter)
-inserts_all-same hash_of steps it start made filter is_made all =
-    subst (λ f. WholeRun steps it (λ run. InsertsItems hash_of f run.items filter)) is_made
-    (subst (λ i. WholeRun steps i (λ run. InsertsItems hash_of start run.items filter)) all.1 all.2)
+pub inserts_all-same : {F T I : Type 0} (Did : F → List T → F → Type 0)
+    (steps : I → Option T → I → Type 0) (it : I) (start made filter : F) → start ≡ made
+    → (same : I) × (same ≡ it) × WholeRun steps same (λ run. Did start run.items filter)
+    → WholeRun steps it (λ run. Did made run.items filter)
+inserts_all-same Did steps it start made filter is_made all =
+    subst (λ f. WholeRun steps it (λ run. Did f run.items filter)) is_made
+    (subst (λ i. WholeRun steps i (λ run. Did start run.items filter)) all.1 all.2)
 
--- the number of bits for a rate and items is that for a builder of the rate, where 0 items count as
--- 1
-size_of-rate : {S : Type 0} (inside start : RateStart S) (expected items bits : ℕ)
-    → inside ≡ start → items ≡ max expected 1
-    → IsSizeFor items (num_of inside.rate) (den_of inside.rate) bits → IsSizeOf start expected bits
-size_of-rate inside start expected items bits is_start is_items sized =
-    subst (λ b. IsSizeOf b expected bits) is_start
-    (subst (λ i. IsSizeFor i (num_of inside.rate) (den_of inside.rate) bits)
-    (is_items ∙ max_comm expected 1) sized)
+module _ {S : Type 0} (IsSize : ℕ → ℕ → ℕ → ℕ → Type 0) (inside start : RateStart S)
+    (expected items bits : ℕ) (is_start : inside ≡ start) (is_items : items ≡ max expected 1)
+    (sized : IsSize items (num_of inside.rate) (den_of inside.rate) bits) where
+  -- the number of bits for a rate and items is that for a builder of the rate, where 0 items count
+  -- as 1
+  pub size_of-rate : IsSize (max 1 expected) (num_of start.rate) (den_of start.rate) bits
+  size_of-rate =
+      subst (λ b. IsSize (max 1 expected) (num_of b.rate) (den_of b.rate) bits) is_start
+      (subst (λ i. IsSize i (num_of inside.rate) (den_of inside.rate) bits)
+      (is_items ∙ max_comm expected 1) sized)
 
--- a filter that was sized from zero words for a rate's items is made for them
-pub made_for-zeros : {S : Type 0} (inside start : RateStart S) (words : List ℕ)
-    (expected items bits : ℕ) (filter : Filter S) → inside ≡ start → items ≡ max expected 1
-    → IsSizeFor items (num_of inside.rate) (den_of inside.rate) bits
-    → words ≡ replicate (words_for bits) 0
-    → filter ≡ sized_filter (record { words = words; hasher = inside.hasher }) expected
-    → IsMadeFor start expected filter
-made_for-zeros inside start words expected items bits filter is_start is_items sized zeros made = (
-  bits,
-  size_of-rate inside start expected items bits is_start is_items sized,
-  made ∙ ap (λ w. sized_filter (record { words = w; hasher = inside.hasher }) expected) zeros
-      ∙ ap (λ b. sized_filter (empty_start b bits) expected) is_start,
-)
-
--- a size that is refused is refused as `zero_bits` refuses it
-pub refused-size : {S : Type 0} (inside start : RateStart S) (expected items bits : ℕ)
-    (error : Option FilterError) → inside ≡ start → items ≡ max expected 1
-    → IsSizeFor items (num_of inside.rate) (den_of inside.rate) bits
-    → RefusesAs (size_refusal bits) error
-    → (size : ℕ) × IsSizeOf start expected size × RefusesAs (size_refusal size) error
-refused-size inside start expected items bits error is_start is_items sized refused =
-    (bits, size_of-rate inside start expected items bits is_start is_items sized, refused)
+  -- a filter that was sized from zero words for a rate's items is made for them
+  pub made_for-zeros : (suited : Start S → ℕ → Filter S) (words_of : ℕ → ℕ) (words : List ℕ)
+      (filter : Filter S) → words ≡ replicate (words_of bits) 0
+      → filter ≡ suited (record { words = words; hasher = inside.hasher }) expected
+      → (size : ℕ) × IsSize (max 1 expected) (num_of start.rate) (den_of start.rate) size
+      × (filter ≡ suited (record {
+        words = replicate (words_of size) 0;
+        hasher = start.hasher;
+      }) expected)
+  made_for-zeros suited words_of words filter zeros made = (
+    bits,
+    size_of-rate,
+    made ∙ ap (λ w. suited (record { words = w; hasher = inside.hasher }) expected) zeros
+        ∙ ap (λ b. suited (record {
+          words = replicate (words_of bits) 0;
+          hasher = b.hasher;
+        }) expected) is_start,
+  )
 
 -- lists of words are compared word by word
 pub equal_starts_law : (S : Type 0) → EqualStartsLaw S

@@ -1,6 +1,6 @@
 -- Sets that are compared number by number, for the facts on worked cases.
 use Rattle.std.proofs.Common.{◌≡◌, ℕ, zero, suc, ◌*◌, ◌/◌, ◌%◌, ◌^◌, ◌<◌, ◌≤◌, Bool, true, false, ◌&&◌, not, cond, eqb, List, length, refl, sym, ◌∙◌, ap, arith, inl, inr}
-use Rattle.std.proofs.lemmas.Bool.{cases_eq, cases_lt, and_parts}
+use Rattle.std.proofs.lemmas.Bool.{cases_eq, cases_lt, and_parts, false_from_ne_true}
 use Rattle.std.proofs.lemmas.List.{get_or_past}
 use Rattle.std.proofs.lemmas.Nat.Bits.{bit_at-zero}
 use Rattle.bloom_parts.specs.Content.{bit_is_on, content}
@@ -39,12 +39,8 @@ content-past words p past =
 -- past the bits of a filter no hash has a position
 pub positions-past : (n k hash p : ℕ) → 0 < n → hash < 2 ^ 64 → n ≤ p → positions n k hash p ≡ false
 positions-past n k hash p some fits past =
-    none (positions n k hash p)
+    false_from_ne_true (positions n k hash p)
     (λ on. let below = range_law n k hash p some fits on in omega (arith, below, past))
-  where
-    none : (b : Bool) → (b ≡ true → ⊥) → b ≡ false
-    none true never = absurd (never refl)
-    none false never = refl
 
 -- words have the content of a set, if both agree below the bits and the set has nothing past them
 pub content-case : (words : List ℕ) (A : ℕ → Bool)

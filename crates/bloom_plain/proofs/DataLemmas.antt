@@ -1,28 +1,28 @@
 -- Filters of the same data.
-use Rattle.std.proofs.Common.{◌≡◌, ◌∙◌, ◌*◌, ℕ, length, ap, arith, sym}
+use Rattle.std.proofs.Common.{◌≡◌, ◌∙◌, ℕ, length, ap, arith, sym}
 use Rattle.bloom_parts.specs.Content.{content}
 use Rattle.bloom_parts.specs.Keys.{HasKey, key_of}
-use Rattle.bloom_parts.specs.Places.{are_in}
 use Rattle.bloom_parts.specs.declared.hasher.CloneBuildHasher.{CloneBuildHasher}
 use Rattle.bloom_parts.specs.declared.hasher.sip.RandomDefaultHasher.{RandomDefaultHasher}
-use Rattle.bloom_plain.specs.Data.{AnswerAlike, DataLaw, DefaultFilter, SameItemsLaw}
+use Rattle.bloom_plain.specs.Data.{AnswerAlikeBy, DataLaw, DefaultFilter, SameItemsLaw}
+use Rattle.bloom_plain.specs.Filter.{Placement, anywhere}
 
 -- filters of equal words, numbers of hashes and keys answer alike
-pub alike-parts : (f g : DefaultFilter) → g.words ≡ f.words → g.hashes ≡ f.hashes
-    → key_of g.hasher ≡ key_of f.hasher → AnswerAlike f g
-alike-parts f g words hashes key = record {
+pub alike-parts : (at : Placement) (f g : DefaultFilter) → g.words ≡ f.words
+    → g.hashes ≡ f.hashes → key_of g.hasher ≡ key_of f.hasher → AnswerAlikeBy at f g
+alike-parts at f g words hashes key = record {
   words = words;
   hashes = hashes;
   key = key;
   found = λ hash.
-      ap (λ w. are_in (64 * length w) g.hashes hash (content w)) words
-      ∙ ap (λ k. are_in (64 * length f.words) k hash (content f.words)) hashes;
+      ap (λ w. at.are_in (length w) g.hashes hash (content w)) words
+      ∙ ap (λ k. at.are_in (length f.words) k hash (content f.words)) hashes;
 }
 
 -- filters of the same data have equal parts
 pub data_law : DataLaw
 data_law f g form of made =
-    alike-parts f g (made.words ∙ sym of.words) (omega (arith, made.hashes, of.hashes))
+    alike-parts anywhere f g (made.words ∙ sym of.words) (omega (arith, made.hashes, of.hashes))
     (made.key ∙ sym of.key)
 
 -- an item has one hash under hashers of one key

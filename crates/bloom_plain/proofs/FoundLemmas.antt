@@ -9,7 +9,7 @@ use Rattle.bloom_parts.specs.Deciders.{last_decision}
 use Rattle.bloom_parts.specs.Places.{positions, IsPart}
 use Rattle.bloom_plain.specs.CommandOf.{operation_of}
 use Rattle.bloom_parts.specs.Operations.{Operation, Insert, Contains, Clear, Union, Intersect, decides}
-use Rattle.bloom_plain.specs.Filter.{num_bits_of, positions_of}
+use Rattle.bloom_plain.specs.Filter.{anywhere, num_bits_of, positions_of}
 use Rattle.bloom_plain.specs.Laws.{Spares, KeptByListLaw, KeptByInsertsLaw, FoundLaw, FoundAfterInsertsLaw, FoundAfterReplayLaw}
 use Rattle.bloom_plain.specs.Replies.{CarriesOut}
 use Rattle.bloom_plain.specs.declared.bloom.command.Command.TheVariants as command
@@ -87,7 +87,7 @@ pub found_law : (S : Type 0) → FoundLaw S
 found_law S old new earlier later hash given did all =
     let n = num_bits_of old in
     let k = old.hashes in
-    contains-shape old new hash did.shape
+    contains-shape anywhere old new hash did.shape
     ∙ part-to n k hash (content new.words) (λ p is. did.bits p
     ∙ ap (λ o. unwrap_or o (content old.words p)) (made-on n k hash p is earlier later all))
 
@@ -113,7 +113,7 @@ kept_by_list_law S old new operations hash given did all found =
     let k = old.hashes in
     let P = positions_of old hash in
     let part : IsPart P (content old.words) = part-from n k hash (content old.words) found in
-    contains-shape old new hash did.shape
+    contains-shape anywhere old new hash did.shape
     ∙ part-to n k hash (content new.words) (λ p is. did.bits p
     ∙ stays-on _ _ (leaves_on-list n k P p is operations all) (part p is))
 

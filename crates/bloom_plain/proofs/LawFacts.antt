@@ -1,6 +1,6 @@
 -- The laws of filters and of builders, each used at filters, hashes and lists that differ where
 -- they may. The laws of combinations are in SetFacts.
-use Rattle.std.proofs.Common.{◌≡◌, ◌↔◌, ◌*◌, ◌^◌, ◌<◌, ℕ, true, false, ◌&&◌, [], ◌∷◌, map, refl, sym, ap, lit<}
+use Rattle.std.proofs.Common.{◌≡◌, ◌↔◌, ◌*◌, ◌^◌, ◌<◌, ℕ, true, false, ◌&&◌, [], ◌∷◌, map, refl, sym, ap, lit<, lit≤}
 use Rattle.std.specs.Prelude.{IsTrue}
 use Rattle.std.proofs.lemmas.Bool.{eqb-true}
 use Rattle.std.proofs.lemmas.List.Elements.{All-from_recursion}
@@ -11,7 +11,7 @@ use Rattle.bloom_parts.specs.Places.{positions, are_in}
 use Rattle.bloom_parts.specs.Rates.{num_of, den_of}
 use Rattle.bloom_plain.specs.Builders.{Start, RateStart, same_start, same_rate_start}
 use Rattle.bloom_plain.specs.CommandOf.{operation_of}
-use Rattle.bloom_plain.specs.Filter.{Filter, SameShape, contains, same_filter}
+use Rattle.bloom_plain.specs.Filter.{Filter, SameShape, anywhere, contains, same_filter}
 use Rattle.bloom_plain.specs.Laws.{InsertLaw, KeptByInsertLaw, KeptByUnionLaw, Spares, KeptByListLaw, KeptByInsertsLaw, IntersectionLaw, UnionLaw, ClearLaw, SameContent, Rebuilds, RebuiltLaw, EqualityLaw, EqualContentLaw, EqualStartsLaw, EqualRateStartsLaw, JoinedListsLaw, FoundLaw, FoundAfterInsertsLaw, FoundAfterReplayLaw, UnitedInsertsLaw}
 use Rattle.bloom_plain.specs.Replies.{CarriesOut, InsertsAll}
 use Rattle.bloom_plain.specs.declared.bloom.command.Command.TheVariants as command
@@ -32,12 +32,12 @@ unfolding content chain are_in
 zero-found = refl
 
 -- an insert of hash 1 answers what was found before, and afterwards the hash is contained
-from_insert : InsertLaw ℕ
+from_insert : InsertLaw anywhere ℕ
     → (false ≡ contains (one_word 1) 1) × (contains (one_word 1048577) 1 ≡ true)
 from_insert law = law (one_word 1) (one_word 1048577) 1 false inserts-rest
 
 -- an insert of hash 1 keeps hash 0 contained
-from_kept_by_insert : KeptByInsertLaw ℕ → contains (one_word 1048577) 0 ≡ true
+from_kept_by_insert : KeptByInsertLaw anywhere ℕ → contains (one_word 1048577) 0 ≡ true
 from_kept_by_insert law = law (one_word 1) (one_word 1048577) 1 0 false inserts-rest zero-found
 
 -- and so does a list of that insert
@@ -47,7 +47,7 @@ from_kept_by_inserts law =
     (false ∷ [], carries_out-insert (one_word 1) 1 (one_word 1048577) false inserts-rest) zero-found
 
 -- a union of 5 with 6 keeps hash 0 contained, which 6 doesn't contain
-from_kept_by_union : KeptByUnionLaw ℕ → contains (one_word 7) 0 ≡ true
+from_kept_by_union : KeptByUnionLaw anywhere ℕ → contains (one_word 7) 0 ≡ true
 unfolding content chain are_in
 from_kept_by_union law = law (one_word 5) set.six (one_word 7) 0 set.unites-cases.0 refl
 
@@ -66,14 +66,14 @@ from_kept_by_list law =
     (spares-two, (tt, (tt, (tt, tt))))) refl
 
 -- the intersection of 5 and 6 contains hash 0 exactly if both do
-from_intersection : IntersectionLaw ℕ
+from_intersection : IntersectionLaw anywhere ℕ
     → contains (one_word 4) 0 ≡ (contains (one_word 5) 0 && contains set.six 0)
 from_intersection law =
     law (one_word 5) set.six (one_word 4) 0 (record { words = refl; hashes = refl })
     set.intersects-cases.0
 
 -- a union contains hash 0, which the first filter contained or the other
-from_union : UnionLaw ℕ → (contains (one_word 7) 0 ≡ true)
+from_union : UnionLaw anywhere ℕ → (contains (one_word 7) 0 ≡ true)
     × (contains (filter (7 ∷ []) 2 8) 0 ≡ true)
 unfolding content chain are_in
 from_union law = (
@@ -84,8 +84,8 @@ from_union law = (
 )
 
 -- a cleared filter doesn't contain hash 1
-from_clear : ClearLaw ℕ → contains (one_word 0) 1 ≡ false
-from_clear law = law (one_word 5) (one_word 0) 1 (shape 5) set.clears
+from_clear : ClearLaw anywhere ℕ → contains (one_word 0) 1 ≡ false
+from_clear law = law (one_word 5) (one_word 0) 1 (lit≤ tt) set.clears
 
 -- an insert of hash 0 and a look-up of it make one list
 from_joined : JoinedListsLaw ℕ

@@ -1,103 +1,142 @@
 -- The laws of filters.
-use Rattle.std.proofs.Common.{◌≡◌, ℕ, zero, suc, ◌*◌, Bool, true, false, ◌&&◌, nat_eq, refl, sym, ◌∙◌, ap, arith, inl, inr}
+use Rattle.std.proofs.Common.{◌≡◌, ◌↔◌, ◌≤◌, ℕ, ◌*◌, Bool, true, false, ◌&&◌, nat_eq, length, refl, sym, ◌∙◌, ap, arith, inl, inr}
+use Rattle.std.specs.Cmp.{both_ways as same_tests}
 use Rattle.std.specs.Cmp.Lexicographic.{pointwise, same_text, nat_list_eq_equiv}
-use Rattle.std.proofs.lemmas.Bool.{or_cases, or_left, or_right, and_parts, and_from, eqb-true, eq-eqb}
+use Rattle.std.proofs.lemmas.Bool.{or_cases, or_left, or_right, and_parts, and_from, eqb-true, eq-eqb, both_ways, false_from_ne_true}
 use Rattle.bloom_parts.specs.Content.{content, EqualWordsLaw}
-use Rattle.bloom_parts.specs.Places.{are_in, place, IsPart}
-use Rattle.bloom_plain.specs.Filter.{Filter, SameShape, num_bits_of, contains}
+use Rattle.bloom_parts.specs.Places.{place, IsPart}
+use Rattle.bloom_plain.specs.Filter.{Filter, SameShape, Placement, anywhere, contains, contains_by, positions_by, InsertsBy}
 use Rattle.bloom_plain.specs.Laws.{InsertLaw, KeptByInsertLaw, KeptByUnionLaw, IntersectionLaw, UnionLaw, ClearLaw, RebuiltLaw, EqualityLaw, EqualContentLaw}
-use Rattle.bloom_parts.proofs.PublishedLemmas.{part-from, part-to, are_in-off}
+use Rattle.bloom_parts.proofs.PublishedLemmas.{adds-nothing, part-from, part-to, place-position, position-to}
+
+-- all positions of a hash are in a set exactly if they are a part of it, and there is one
+pub record IsLawful (at : Placement) : Type 0 where
+  pub subset : (words k hash : ℕ) (A : ℕ → Bool)
+      → (at.are_in words k hash A ≡ true) ↔ IsPart (at.positions words k hash) A
+  pub some : (words k hash : ℕ) → 1 ≤ k
+      → (p : ℕ) × (at.positions words k hash p ≡ true)
+
+pub anywhere-lawful : IsLawful anywhere
+anywhere-lawful = record {
+  subset = λ words k hash A. (part-from (64 * words) k hash A, part-to (64 * words) k hash A);
+  some = λ words k hash some. (
+    place (64 * words) hash 0,
+    position-to (64 * words) k hash _ (place-position (64 * words) k hash 0 some),
+  );
+}
 
 -- a look-up in a filter of the same shape is the look-up with the first filter's numbers
-pub contains-shape : {S : Type 0} (old new : Filter S) (hash : ℕ) → SameShape old new
-    → contains new hash ≡ are_in (num_bits_of old) old.hashes hash (content new.words)
-contains-shape old new hash same =
-    ap (λ w. are_in (64 * w) new.hashes hash (content new.words)) (sym same.words)
-    ∙ ap (λ k. are_in (num_bits_of old) k hash (content new.words)) (sym same.hashes)
+pub contains-shape : {S : Type 0} (at : Placement) (old new : Filter S) (hash : ℕ)
+    → SameShape old new
+    → contains_by at new hash ≡ at.are_in (length old.words) old.hashes hash (content new.words)
+contains-shape at old new hash same =
+    ap (λ w. at.are_in w new.hashes hash (content new.words)) (sym same.words)
+    ∙ ap (λ k. at.are_in (length old.words) k hash (content new.words)) (sym same.hashes)
 
--- positions that are in a set are in a greater set
-pub are_in-greater : (n k hash : ℕ) (A B : ℕ → Bool) → IsPart A B
-    → are_in n k hash A ≡ true → are_in n k hash B ≡ true
-are_in-greater n k hash A B part all =
-    part-to n k hash B (λ p is. part p (part-from n k hash A all p is))
+module _ (at : Placement) (lawful : IsLawful at) where
+  -- what contains the positions of a hash contains the hash
+  contains-part : {S : Type 0} (old new : Filter S) (hash : ℕ) → SameShape old new
+      → IsPart (positions_by at old hash) (content new.words) → contains_by at new hash ≡ true
+  contains-part old new hash same part =
+      contains-shape at old new hash same
+      ∙ (lawful.subset (length old.words) old.hashes hash (content new.words)).1 part
 
--- the greater of two filters of one shape contains what the other does
-pub contains-greater : {S : Type 0} (old new : Filter S) (hash : ℕ) → SameShape old new
-    → IsPart (content old.words) (content new.words)
-    → contains old hash ≡ true → contains new hash ≡ true
-contains-greater old new hash same part found =
-    contains-shape old new hash same
-    ∙ are_in-greater (num_bits_of old) old.hashes hash (content old.words) (content new.words)
-    part found
+  -- and it has them where it does
+  part-of : {S : Type 0} (f : Filter S) (hash : ℕ) → contains_by at f hash ≡ true
+      → IsPart (positions_by at f hash) (content f.words)
+  part-of f hash = (lawful.subset (length f.words) f.hashes hash (content f.words)).0
 
--- the positions of the hash are set after the insert
-pub insert_law : (S : Type 0) → InsertLaw S
-insert_law S old new hash reply did = (
-  did.answers,
-  contains-shape old new hash did.shape
-      ∙ part-to (num_bits_of old) old.hashes hash (content new.words)
-      (λ p is. did.bits p ∙ or_right (content old.words p) _ is),
-)
+  -- the greater of two filters of one shape contains what the other does
+  pub contains-greater : {S : Type 0} (old new : Filter S) (hash : ℕ) → SameShape old new
+      → IsPart (content old.words) (content new.words)
+      → contains_by at old hash ≡ true → contains_by at new hash ≡ true
+  contains-greater old new hash same part found =
+      contains-part old new hash same (λ p is. part p (part-of old hash found p is))
 
--- the content after an insert is greater
-pub kept_by_insert_law : (S : Type 0) → KeptByInsertLaw S
-kept_by_insert_law S old new inserted hash reply did =
-    contains-greater old new hash did.shape
-    (λ p on. did.bits p ∙ or_left (content old.words p) _ on)
+  -- an insert of a hash that is contained changes nothing
+  pub contained-insert : {S : Type 0} (old : Filter S) (hash : ℕ)
+      → contains_by at old hash ≡ true → InsertsBy at old hash old true
+  contained-insert old hash is = record {
+    answers = sym is;
+    bits = λ p.
+        adds-nothing (content old.words p) (positions_by at old hash p) (part-of old hash is p);
+    shape = record { words = refl; hashes = refl };
+    hasher = refl;
+  }
 
--- the content after a union is greater
-pub kept_by_union_law : (S : Type 0) → KeptByUnionLaw S
-kept_by_union_law S old other new hash did =
-    contains-greater old new hash did.shape
-    (λ p on. did.bits p ∙ or_left (content old.words p) _ on)
+  -- where no position is set, no hash is contained
+  pub contains-none : {S : Type 0} (f : Filter S) (hash : ℕ) → 1 ≤ f.hashes
+      → ((p : ℕ) → content f.words p ≡ false) → contains_by at f hash ≡ false
+  contains-none f hash some none =
+      let first = lawful.some (length f.words) f.hashes hash some in
+      false_from_ne_true (contains_by at f hash)
+      (λ all. both_ways (content f.words first.0) (none first.0)
+      (part-of f hash all first.0 first.1))
 
--- the two tests in the middle of four change places
-exchange : (a b c d : Bool) → ((a && b) && (c && d)) ≡ ((a && c) && (b && d))
-exchange true true c d = refl
-exchange true false true d = refl
-exchange true false false d = refl
-exchange false b c d = refl
+  -- all are in both of two sets exactly if they are in each
+  are_in-both : (words k hash : ℕ) (A B : ℕ → Bool)
+      → at.are_in words k hash (λ p. A p && B p)
+      ≡ (at.are_in words k hash A && at.are_in words k hash B)
+  are_in-both words k hash A B =
+      let tests = lawful.subset words k hash in
+      same_tests _ _
+      (λ all.
+      and_from (at.are_in words k hash A) (at.are_in words k hash B)
+      ((tests A).1 (λ p is. (and_parts (A p) (B p) ((tests (λ q. A q && B q)).0 all p is)).0))
+      ((tests B).1 (λ p is. (and_parts (A p) (B p) ((tests (λ q. A q && B q)).0 all p is)).1)))
+      (λ each.
+      let parts = and_parts (at.are_in words k hash A) (at.are_in words k hash B) each in
+      (tests (λ q. A q && B q)).1
+      (λ p is. and_from (A p) (B p) ((tests A).0 parts.0 p is) ((tests B).0 parts.1 p is)))
 
--- all are in both of two sets exactly if they are in each
-are_in-both : (n k hash : ℕ) (A B : ℕ → Bool)
-    → are_in n k hash (λ p. A p && B p) ≡ (are_in n k hash A && are_in n k hash B)
-unfolding are_in
-are_in-both n zero hash A B = refl
-are_in-both n (suc k) hash A B =
-    let here = place n hash k in
-    ap (λ b. b && (A here && B here)) (are_in-both n k hash A B)
-    ∙ exchange (are_in n k hash A) (are_in n k hash B) (A here) (B here)
+  module _ (S : Type 0) where
+    -- the positions of the hash are set after the insert
+    pub insert_law : InsertLaw at S
+    insert_law old new hash reply did = (
+      did.answers,
+      contains-part old new hash did.shape
+          (λ p is. did.bits p ∙ or_right (content old.words p) _ is),
+    )
 
--- the positions of the hash are in both contents exactly if they are in each
-pub intersection_law : (S : Type 0) → IntersectionLaw S
-intersection_law S old other new hash same did =
-    let n = num_bits_of old in
-    let k = old.hashes in
-    contains-shape old new hash did.shape
-    ∙ ap (are_in n k hash) (λ i p. did.bits p i)
-    ∙ are_in-both n k hash (content old.words) (content other.words)
-    ∙ ap (λ b. contains old hash && b) (sym (contains-shape old other hash same))
+    -- the content after an insert is greater
+    pub kept_by_insert_law : KeptByInsertLaw at S
+    kept_by_insert_law old new inserted hash reply did =
+        contains-greater old new hash did.shape
+        (λ p on. did.bits p ∙ or_left (content old.words p) _ on)
 
--- the content after a union is greater than either
-pub union_law : (S : Type 0) → UnionLaw S
-union_law S old other new hash same did either =
-    elim (or_cases (contains old hash) (contains other hash) either) [
-      | inl found ↦ kept_by_union_law S old other new hash did found
-      | inr found ↦
-          contains-shape old new hash did.shape
-          ∙ are_in-greater (num_bits_of old) old.hashes hash (content other.words)
-          (content new.words)
-          (λ p on. did.bits p ∙ or_right (content old.words p) (content other.words p) on)
-          (sym (contains-shape old other hash same) ∙ found)
-    ]
+    -- the content after a union is greater
+    pub kept_by_union_law : KeptByUnionLaw at S
+    kept_by_union_law old other new hash did =
+        contains-greater old new hash did.shape
+        (λ p on. did.bits p ∙ or_left (content old.words p) _ on)
 
--- the first position of the hash is clear after a clear
-pub clear_law : (S : Type 0) → ClearLaw S
-clear_law S old new hash shape did =
-    let n = num_bits_of old in
-    contains-shape old new hash did.shape
-    ∙ are_in-off n old.hashes hash (content new.words) 0 shape.some_hashes
-    (did.bits (place n hash 0))
+    -- the positions of the hash are in both contents exactly if they are in each
+    pub intersection_law : IntersectionLaw at S
+    intersection_law old other new hash same did =
+        contains-shape at old new hash did.shape
+        ∙ ap (at.are_in (length old.words) old.hashes hash) (λ i p. did.bits p i)
+        ∙ are_in-both (length old.words) old.hashes hash (content old.words) (content other.words)
+        ∙ ap (λ b. contains_by at old hash && b) (sym (contains-shape at old other hash same))
+
+    -- the content after a union is greater than either
+    pub union_law : UnionLaw at S
+    union_law old other new hash same did either =
+        elim (or_cases (contains_by at old hash) (contains_by at other hash) either) [
+          | inl found ↦ kept_by_union_law old other new hash did found
+          | inr found ↦
+              contains-greater other new hash
+              (record {
+                words = sym same.words ∙ did.shape.words;
+                hashes = sym same.hashes ∙ did.shape.hashes;
+              })
+              (λ p on. did.bits p ∙ or_right (content old.words p) (content other.words p) on)
+              found
+        ]
+
+    -- no position is set after a clear
+    pub clear_law : ClearLaw at S
+    clear_law old new hash some did =
+        contains-none new hash (omega (arith, some, did.shape.hashes)) did.bits
 
 -- the parts of both filters are equal
 pub rebuilt_law : (S : Type 0) → RebuiltLaw S

@@ -1,6 +1,6 @@
 mod AlgebraLemmas
 mod BuilderFacts
-mod BuilderLemmas
+pub mod BuilderLemmas
 pub mod CaseLemmas
 mod DataFacts
 pub mod DataLemmas

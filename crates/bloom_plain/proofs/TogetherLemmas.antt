@@ -1,32 +1,15 @@
 -- What inserts of many hashes set.
-use Rattle.std.proofs.Common.{◌≡◌, ℕ, Bool, true, false, ◌||◌, List, [], ◌∷◌, map, refl, sym, ◌∙◌, ap}
+use Rattle.std.proofs.Common.{◌≡◌, ℕ, Bool, ◌||◌, List, [], ◌∷◌, map, refl, sym, ◌∙◌, ap}
 use Rattle.std.proofs.Math.Bool.{or-false, or_assoc}
 use Rattle.std.specs.List.{list_any}
 use Rattle.bloom_parts.specs.Content.{content}
 use Rattle.bloom_parts.specs.Deciders.{makes_on, state}
 use Rattle.bloom_parts.specs.Operations.{Insert, decides}
 use Rattle.bloom_parts.specs.Places.{positions}
-use Rattle.bloom_parts.proofs.PublishedLemmas.{part-from, state-append}
-use Rattle.bloom_plain.specs.Filter.{Filter, SameShape, contains, Inserts, positions_of, num_bits_of}
+use Rattle.bloom_parts.proofs.PublishedLemmas.{state-append}
+use Rattle.bloom_plain.specs.Filter.{Filter, SameShape, positions_of, num_bits_of}
 use Rattle.bloom_plain.specs.Replies.{InsertsAll, replies}
 use Rattle.bloom_plain.proofs.ReplyLemmas.{or-makes_on}
-
--- a part of a set adds nothing to it
-adds-nothing : (a b : Bool) → (b ≡ true → a ≡ true) → a ≡ (a || b)
-adds-nothing true b p = refl
-adds-nothing false true p = p refl
-adds-nothing false false p = refl
-
-module _ {S : Type 0} (old : Filter S) where
-  -- an insert of a hash that is contained changes nothing
-  pub contained-insert : (hash : ℕ) → contains old hash ≡ true → Inserts old hash old true
-  contained-insert hash is = record {
-    answers = sym is;
-    bits = λ p. adds-nothing (content old.words p) (positions_of old hash p)
-        (λ on. part-from (num_bits_of old) old.hashes hash (content old.words) is p on);
-    shape = record { words = refl; hashes = refl };
-    hasher = refl;
-  }
 
 -- what is set after inserts of all hashes of a list
 state-inserts : (n k : ℕ) (A : ℕ → Bool) (hashes : List ℕ) (p : ℕ)

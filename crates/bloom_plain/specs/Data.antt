@@ -7,7 +7,7 @@ use Rattle.bloom_parts.specs.declared.error.FilterError.TheVariants.{EmptyWords,
 use Rattle.bloom_parts.specs.declared.hasher.CloneBuildHasher.{CloneBuildHasher}
 use Rattle.bloom_parts.specs.declared.hasher.sip.RandomDefaultHasher.{RandomDefaultHasher}
 use Rattle.bloom_plain.specs.declared.bloom.data.FilterData.{FilterData}
-use Rattle.bloom_plain.specs.Filter.{Filter, contains}
+use Rattle.bloom_plain.specs.Filter.{Filter, Placement, anywhere, contains_by}
 
 -- a filter with the default hasher
 abbrev pub DefaultFilter : Type 0
@@ -27,12 +27,17 @@ pub record IsDataOf (form : FilterData) (f : DefaultFilter) : Type 0 where
   pub hashes : f.hashes ≡ form.num_hashes_minus_one + 1
   pub key : key_of f.hasher ≡ (form.k0, form.k1)
 
--- two filters have equal words, numbers of hashes and keys, and contain the same hashes
-pub record AnswerAlike (f g : DefaultFilter) : Type 0 where
+-- two filters of one placement have equal words, numbers of hashes and keys, and contain the same
+-- hashes
+pub record AnswerAlikeBy (place : Placement) (f g : DefaultFilter) : Type 0 where
   pub words : g.words ≡ f.words
   pub hashes : g.hashes ≡ f.hashes
   pub key : key_of g.hasher ≡ key_of f.hasher
-  pub found : (hash : ℕ) → contains g hash ≡ contains f hash
+  pub found : (hash : ℕ) → contains_by place g hash ≡ contains_by place f hash
+
+-- two Bloom filters have equal words, numbers of hashes and keys, and contain the same hashes
+abbrev pub AnswerAlike : DefaultFilter → DefaultFilter → Type 0
+AnswerAlike f g = AnswerAlikeBy anywhere f g
 
 -- two filters of the same data contain the same hashes
 abbrev pub DataLaw : Type 0

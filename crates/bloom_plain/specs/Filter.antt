@@ -39,22 +39,48 @@ pub record SameShape {S : Type 0} (f g : Filter S) : Type 0 where
   pub words : length f.words ≡ length g.words
   pub hashes : f.hashes ≡ g.hashes
 
+-- where a kind of filter has the positions of a hash, by its numbers of words and of hashes, and
+-- whether all of them are in a set
+pub record Placement : Type 0 where
+  pub positions : ℕ → ℕ → ℕ → ℕ → Bool
+  pub are_in : ℕ → ℕ → ℕ → (ℕ → Bool) → Bool
+
+-- a Bloom filter has them anywhere among its bits
+abbrev pub anywhere : Placement
+anywhere = record {
+  positions = λ words. positions (64 * words);
+  are_in = λ words. are_in (64 * words);
+}
+
 -- the set of the positions of a hash
+abbrev pub positions_by : {S : Type 0} → Placement → Filter S → ℕ → ℕ → Bool
+positions_by place f hash = place.positions (length f.words) f.hashes hash
+
+-- the same set in a Bloom filter
 abbrev pub positions_of : {S : Type 0} → Filter S → ℕ → ℕ → Bool
-positions_of f hash = positions (num_bits_of f) f.hashes hash
+positions_of f hash = positions_by anywhere f hash
 
 -- whether all positions of a hash are set
+abbrev pub contains_by : {S : Type 0} → Placement → Filter S → ℕ → Bool
+contains_by place f hash = place.are_in (length f.words) f.hashes hash (content f.words)
+
+-- whether a Bloom filter contains a hash: all positions of the hash are set
 abbrev pub contains : {S : Type 0} → Filter S → ℕ → Bool
-contains f hash = are_in (num_bits_of f) f.hashes hash (content f.words)
+contains f hash = contains_by anywhere f hash
 
 -- an insert took the old filter to the new: the positions of a hash were set, and the reply is
 -- whether all of them were set before
-pub record Inserts {S : Type 0} (old : Filter S) (hash : ℕ) (new : Filter S) (reply : Bool)
-    : Type 0 where
-  pub answers : reply ≡ contains old hash
-  pub bits : (p : ℕ) → content new.words p ≡ (content old.words p || positions_of old hash p)
+pub record InsertsBy {S : Type 0} (place : Placement) (old : Filter S) (hash : ℕ) (new : Filter S)
+    (reply : Bool) : Type 0 where
+  pub answers : reply ≡ contains_by place old hash
+  pub bits : (p : ℕ) → content new.words p
+      ≡ (content old.words p || positions_by place old hash p)
   pub shape : SameShape old new
   pub hasher : new.hasher ≡ old.hasher
+
+-- an insert took a Bloom filter to the new one
+abbrev pub Inserts : {S : Type 0} → Filter S → ℕ → Filter S → Bool → Type 0
+Inserts old hash new reply = InsertsBy anywhere old hash new reply
 
 -- a clear took the old filter to the new: every position was cleared
 pub record Clears {S : Type 0} (old new : Filter S) : Type 0 where

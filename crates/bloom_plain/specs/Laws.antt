@@ -1,30 +1,32 @@
 -- Laws of filters, over what the contracts of the calls state. A hash may be any number.
-use Rattle.std.specs.Prelude.{◌≡◌, ◌↔◌, ℕ, ◌*◌, Bool, true, false, ◌||◌, ◌&&◌, max, IsTrue, List, ◌∷◌, ◌++◌, map, All, ⊤}
+use Rattle.std.specs.Prelude.{◌≡◌, ◌↔◌, ◌≤◌, ℕ, ◌*◌, Bool, true, false, ◌||◌, ◌&&◌, max, IsTrue, List, ◌∷◌, ◌++◌, map, All, ⊤}
 use Rattle.bloom_parts.specs.Content.{content, AreWords}
 use Rattle.bloom_parts.specs.Places.{IsPart}
 use Rattle.bloom_parts.specs.Rates.{num_of, den_of}
 use Rattle.bloom_plain.specs.Builders.{Start, RateStart, same_start, same_rate_start}
 use Rattle.bloom_plain.specs.CommandOf.{operation_of}
 use Rattle.bloom_parts.specs.Operations.{Operation, Insert, Contains, Clear, Union, Intersect}
-use Rattle.bloom_plain.specs.Filter.{Filter, HasShape, SameShape, positions_of, contains, Inserts, Clears, Unites, Intersects, same_filter}
+use Rattle.bloom_plain.specs.Filter.{Filter, HasShape, SameShape, Placement, positions_of, contains, contains_by, InsertsBy, Clears, Unites, Intersects, same_filter}
 use Rattle.bloom_plain.specs.Replies.{CarriesOut, InsertsAll}
 use Rattle.bloom_plain.specs.declared.bloom.command.Command.{Command}
 use Rattle.bloom_plain.specs.declared.bloom.command.Command.TheVariants as command
 
 -- an insert returns what a look-up just before it would have, and afterwards its hash is contained
-abbrev pub InsertLaw : (S : Type 0) → Type 0
-InsertLaw S = (old new : Filter S) (hash : ℕ) (reply : Bool) → Inserts old hash new reply
-    → (reply ≡ contains old hash) × (contains new hash ≡ true)
+abbrev pub InsertLaw : Placement → (S : Type 0) → Type 0
+InsertLaw place S = (old new : Filter S) (hash : ℕ) (reply : Bool)
+    → InsertsBy place old hash new reply
+    → (reply ≡ contains_by place old hash) × (contains_by place new hash ≡ true)
 
 -- a hash that is contained stays contained under an insert of any hash
-abbrev pub KeptByInsertLaw : (S : Type 0) → Type 0
-KeptByInsertLaw S = (old new : Filter S) (inserted hash : ℕ) (reply : Bool)
-    → Inserts old inserted new reply → contains old hash ≡ true → contains new hash ≡ true
+abbrev pub KeptByInsertLaw : Placement → (S : Type 0) → Type 0
+KeptByInsertLaw place S = (old new : Filter S) (inserted hash : ℕ) (reply : Bool)
+    → InsertsBy place old inserted new reply
+    → contains_by place old hash ≡ true → contains_by place new hash ≡ true
 
 -- a hash that is contained stays contained under a union
-abbrev pub KeptByUnionLaw : (S : Type 0) → Type 0
-KeptByUnionLaw S = (old other new : Filter S) (hash : ℕ) → Unites old other new
-    → contains old hash ≡ true → contains new hash ≡ true
+abbrev pub KeptByUnionLaw : Placement → (S : Type 0) → Type 0
+KeptByUnionLaw place S = (old other new : Filter S) (hash : ℕ) → Unites old other new
+    → contains_by place old hash ≡ true → contains_by place new hash ≡ true
 
 -- a command clears no position of a set: it is no clear, and no intersection with a set that lacks
 -- one of them
@@ -48,21 +50,22 @@ KeptByInsertsLaw S = (old new : Filter S) (hashes : List ℕ) (hash : ℕ) → I
     → contains old hash ≡ true → contains new hash ≡ true
 
 -- after an intersection a hash is contained exactly if both filters contained it
-abbrev pub IntersectionLaw : (S : Type 0) → Type 0
-IntersectionLaw S = (old other new : Filter S) (hash : ℕ)
+abbrev pub IntersectionLaw : Placement → (S : Type 0) → Type 0
+IntersectionLaw place S = (old other new : Filter S) (hash : ℕ)
     → SameShape old other → Intersects old other new
-    → contains new hash ≡ (contains old hash && contains other hash)
+    → contains_by place new hash ≡ (contains_by place old hash && contains_by place other hash)
 
 -- after a union a hash is contained if either filter contained it
-abbrev pub UnionLaw : (S : Type 0) → Type 0
-UnionLaw S = (old other new : Filter S) (hash : ℕ)
+abbrev pub UnionLaw : Placement → (S : Type 0) → Type 0
+UnionLaw place S = (old other new : Filter S) (hash : ℕ)
     → SameShape old other → Unites old other new
-    → (contains old hash || contains other hash) ≡ true → contains new hash ≡ true
+    → (contains_by place old hash || contains_by place other hash) ≡ true
+    → contains_by place new hash ≡ true
 
 -- after a clear no hash is contained, since a filter has at least one hash
-abbrev pub ClearLaw : (S : Type 0) → Type 0
-ClearLaw S = (old new : Filter S) (hash : ℕ) → HasShape old → Clears old new
-    → contains new hash ≡ false
+abbrev pub ClearLaw : Placement → (S : Type 0) → Type 0
+ClearLaw place S = (old new : Filter S) (hash : ℕ) → 1 ≤ old.hashes → Clears old new
+    → contains_by place new hash ≡ false
 
 -- two filters have the same positions set
 abbrev pub SameContent : {S : Type 0} → Filter S → Filter S → Type 0

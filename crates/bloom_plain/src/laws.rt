@@ -5,7 +5,7 @@ ghost use Rattle.bloom_parts.specs.Keys.{HasKey};
 ghost use Rattle.bloom_parts.specs.Sip.{sip};
 ghost use Rattle.bloom_parts.specs.declared.hasher.CloneBuildHasher.{CloneBuildHasher as Builder};
 ghost use Rattle.bloom_plain.specs.Data.{DataLaw, SameItemsLaw};
-ghost use Rattle.bloom_plain.specs.Filter.{Unites, Intersects};
+ghost use Rattle.bloom_plain.specs.Filter.{Unites, Intersects, anywhere};
 ghost use Rattle.bloom_plain.specs.Laws.{InsertLaw, KeptByInsertLaw, KeptByUnionLaw, KeptByListLaw, KeptByInsertsLaw, IntersectionLaw, UnionLaw, ClearLaw, IsCommutative, IsAssociative, IsIdempotent, RebuiltLaw, EqualityLaw, EqualContentLaw, EqualStartsLaw, EqualRateStartsLaw, JoinedListsLaw, UnitedInsertsLaw, FoundLaw, FoundAfterInsertsLaw, FoundAfterReplayLaw};
 ghost use Rattle.bloom_plain.specs.SourceHash.{source_hash_of, IsFunctionOfBytes};
 
@@ -15,25 +15,25 @@ use std::hash::{BuildHasher, Hash, Hasher};
 
 /// An insert returns what a look-up would have returned, and afterwards its hash is contained.
 pub fn insert_answers_contains<S>()
-    ensures { InsertLaw S }
+    ensures { InsertLaw anywhere S }
 {}
 
 /// A contained hash stays contained under inserts, unions, and lists that spare its positions.
 pub fn contained_stays<S>()
-    ensures insert { KeptByInsertLaw S }
-    ensures union { KeptByUnionLaw S }
+    ensures insert { KeptByInsertLaw anywhere S }
+    ensures union { KeptByUnionLaw anywhere S }
     ensures list { KeptByListLaw S }
     ensures inserts { KeptByInsertsLaw S }
 {}
 
 /// After an intersection exactly the hashes are contained that both filters contained.
 pub fn intersection_contains<S>()
-    ensures { IntersectionLaw S }
+    ensures { IntersectionLaw anywhere S }
 {}
 
 /// After a union every hash is contained that either filter contained. Other hashes may be too.
 pub fn union_contains<S>()
-    ensures { UnionLaw S }
+    ensures { UnionLaw anywhere S }
 {}
 
 /// Unions commute and associate, and a union of a filter with itself changes nothing.
@@ -52,7 +52,7 @@ pub fn intersection_of_contents<S>()
 
 /// After a clear no hash is contained.
 pub fn clear_contains_nothing<S>()
-    ensures { ClearLaw S }
+    ensures { ClearLaw anywhere S }
 {}
 
 /// A filter that is made of another's words, number of hashes and hasher contains the same hashes.

@@ -3,7 +3,7 @@ ghost use Rattle.std.specs.Prelude.{◌≡◌, ℕ, ◌*◌, ◌/◌, ◌≤◌,
 ghost use Rattle.bloom_parts.specs.Content.{content};
 ghost use Rattle.bloom_blocked.specs.Many.{positions_in_lines, TellsNewInLines};
 
-use super::{WORDS_TO_READ_AHEAD, all_are_set, ends_are_full, mask_where};
+use super::{WORDS_TO_READ_AHEAD, all_are_set, ends_are_full, with_bit};
 use crate::by_hash::insert_hash;
 use bloom_parts::slices::clear;
 
@@ -23,7 +23,7 @@ fn insert_each_telling(words: &mut [u64], num_hashes: u32, hashes: &[u64]) -> u6
     let mut i: usize = 0;
     'hashes: for hash in hashes {
         let was_set = insert_hash(words, num_hashes, *hash);
-        fresh |= mask_where(!was_set, i);
+        fresh = with_bit(fresh, i, !was_set);
         i += 1;
     }
     fresh

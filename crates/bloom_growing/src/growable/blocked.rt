@@ -1,7 +1,6 @@
 //! Blocked filters of which others consist.
 use super::GrowableFilter;
 use bloom_blocked::BlockedBloomFilter;
-use bloom_blocked::laws::test_of_hash;
 use bloom_parts::error::FilterError;
 use bloom_parts::hasher::DefaultHasher;
 use bloom_parts::laws::content_of_words;
@@ -34,7 +33,6 @@ impl GrowableFilter for BlockedBloomFilter {
         let held = self.insert_hash(hash);
         let _after = self.as_slice();
         content_of_words();
-        test_of_hash();
         held
     }
 

@@ -1,10 +1,12 @@
 //! The filters that a growing one consists of: how each is made, and what is asked of them.
 ghost use Rattle.std.specs.Prelude.{◌≡◌, ℕ, ◌*◌, ◌^◌, ◌<◌, ◌≤◌, map, max, IfOk, OnErr, IfErr};
 ghost use Rattle.std.specs.Result.{result_err};
+ghost use Rattle.bloom_parts.specs.declared.math.rate.Rate.{Rate};
 ghost use Rattle.bloom_parts.specs.Rates.{num_of, den_of};
 ghost use Rattle.bloom_plain.specs.Builders.{RefusesAs};
 ghost use Rattle.bloom_growing.specs.Growing as growing;
-ghost use Rattle.bloom_growing.specs.Growing.{IsKeyed, rate_start};
+ghost use Rattle.bloom_growing.specs.Growing.{IsKeyed, IsMadeAs, IsNext, rate_start, setup_of};
+ghost use Rattle.bloom_growing.specs.GrowingInserts.{RefusesNumber};
 ghost use Rattle.bloom_growing.specs.Kinds.{IsMadeIn, IsSizeIn, size_refusal_in};
 ghost use Rattle.bloom_growing.specs.declared.growing.error.GrowingError.TheVariants.{RateOverflow};
 
@@ -16,7 +18,7 @@ use bloom_parts::math::Rate;
 use std::alloc::Global;
 
 // Half of a rate, with the same upper part.
-pub(crate) fn half(rate: Rate) -> Result<Rate, GrowingError>
+fn half(rate: Rate) -> Result<Rate, GrowingError>
     ensures num { IfOk result (λ half. num_of half ≡ num_of rate) }
     ensures den { IfOk result (λ half. den_of half ≡ den_of rate * 2) }
     ensures fits { IfOk result (λ half. den_of half < 2 ^ 64) }
@@ -39,7 +41,7 @@ fn copy_of(hasher: &DefaultHasher) -> DefaultHasher
 }
 
 // The filter that the builders make for this many items at this rate, under the same key.
-pub(crate) fn make<F: GrowableFilter>(
+fn make<F: GrowableFilter>(
     alloc: Global,
     rate: Rate,
     items: usize,
@@ -52,6 +54,28 @@ pub(crate) fn make<F: GrowableFilter>(
         × RefusesAs (size_refusal_in F.kind bits) (result_err result) }
 {
     F::make(alloc, rate, items, copy_of(hasher))
+}
+
+// The next filter, with its rate, which is half of the last one, and its room.
+pub(crate) fn make_next<F: GrowableFilter>(
+    alloc: Global,
+    last: Rate,
+    room: Option<usize>,
+    hasher: &DefaultHasher,
+) -> Result<(F, Rate, usize), GrowingError>
+    requires { IsKeyed hasher.now }
+    ensures made { (rate : Rate) (first i : ℕ) → IsNext rate first i last room
+        → IfOk result (λ made. IsMadeAs F.kind (setup_of rate first hasher.now) i
+        (F.seen made.0) made.1 made.2) }
+    ensures refused { (rate : Rate) (first i : ℕ) → IsNext rate first i last room
+        → RefusesNumber F.kind rate first i (result_err result) }
+{
+    let rate = half(last)?;
+    let Some(room) = room else {
+        return Err(GrowingError::TooManyItems);
+    };
+    let filter = make(alloc, rate, room, hasher)?;
+    Ok((filter, rate, room))
 }
 
 // Whether one of these filters contains a hash.

@@ -1,5 +1,6 @@
-use Rattle.std.proofs.Common.{◌≡◌, ◌/◌, ◌&&◌, ◌∷◌, [], ℕ, length, nat_lt, slice_index}
+use Rattle.std.proofs.Common.{◌≡◌, ◌/◌, ◌&&◌, ◌∷◌, [], ℕ, length, nat_lt}
 use Rattle.bloom_parts.specs.Content.{content}
+use Rattle.bloom_parts.specs.Many.{is_found}
 use Rattle.bloom_blocked.specs.Lines.{are_in_line}
 use Rattle.bloom_blocked.proofs.many.found_bits.Given as goal
 
@@ -7,6 +8,6 @@ use Rattle.bloom_blocked.proofs.many.found_bits.Given as goal
 abbrev pub invariant-looks : goal.invariant-looks
 invariant-looks l = record {
   bits : (p : ℕ) → content (l.found ∷ []) p ≡ (nat_lt p l.hash-index
-      && are_in_line (length l.words / 8) l.num_hashes (slice_index l.hashes p) (content l.words));
+      && is_found (are_in_line (length l.words / 8) l.num_hashes) (content l.words) l.hashes p);
   at : l.i ≡ l.hash-index;
 }

@@ -1,8 +1,5 @@
-use Rattle.bloom_parts.proofs.HalvingLemmas.{cover_law, none_law, most_law}
+use Rattle.bloom_parts.proofs.HalvingLemmas.{none_law, most_law}
 use Rattle.bloom_parts.proofs.laws.halvings_of_rate.Goals as goal
-
-pub returns-clause-cover : goal.returns-clause-cover
-returns-clause-cover c = cover_law
 
 pub returns-clause-none : goal.returns-clause-none
 returns-clause-none c = none_law

@@ -1,5 +1,5 @@
-use Rattle.bloom_plain.proofs.LawLemmas.{clear_law}
+use Rattle.bloom_plain.proofs.LawLemmas.{anywhere-lawful, clear_law}
 use Rattle.bloom_plain.proofs.laws.clear_contains_nothing.Goals as goal
 
 pub returns : goal.returns
-returns g c = clear_law _
+returns g c = clear_law _ anywhere-lawful _

@@ -1,5 +1,5 @@
-use Rattle.bloom_plain.proofs.LawLemmas.{intersection_law}
+use Rattle.bloom_plain.proofs.LawLemmas.{anywhere-lawful, intersection_law}
 use Rattle.bloom_plain.proofs.laws.intersection_contains.Goals as goal
 
 pub returns : goal.returns
-returns g c = intersection_law _
+returns g c = intersection_law _ anywhere-lawful _

@@ -1,7 +1,8 @@
 use Rattle.std.proofs.Common.{◌≡◌, subst}
+use Rattle.bloom_blocked.specs.Blocked.{InsertsItemsInLines}
 use Rattle.bloom_plain.specs.SourceHash.{lent_hash_of}
 use Rattle.bloom_blocked.specs.BlockedSizing.{sized_in_lines}
-use Rattle.bloom_blocked.proofs.BuilderLemmas.{inserts_all-same}
+use Rattle.bloom_plain.proofs.BuilderLemmas.{inserts_all-same}
 use Rattle.bloom_blocked.proofs.builder.BlockedBuilderWithBits.items.Goals as goal
 
 pub returns-clause-content : goal.returns-clause-content
@@ -10,7 +11,8 @@ returns-clause-content g c =
     let made = c.expected_items-filter in (
       it.result,
       it.ensures.into_iter_gives,
-      inserts_all-same (lent_hash_of g.S.BuildHasher g.S.Hasher.Hasher g.T.Hash.hash_input)
+      inserts_all-same
+          (InsertsItemsInLines (lent_hash_of g.S.BuildHasher g.S.Hasher.Hasher g.T.Hash.hash_input))
           g.I.IntoIter.Iterator.next_gives _ _ _ _
           (subst (λ n. made.result ≡ sized_in_lines c.args.self n) c.len.ensures.value
           made.ensures)

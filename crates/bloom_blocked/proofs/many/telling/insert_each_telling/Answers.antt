@@ -1,37 +1,35 @@
-use Rattle.std.proofs.Common.{◌/◌, ◌&&◌, ℕ, Bool, not, length, slice_index, ap, sym, ◌∙◌, arith, rules}
-use Rattle.std.proofs.lemmas.Bool.{le-ltb}
+use Rattle.std.proofs.Common.{◌/◌, ◌||◌, ◌&&◌, ◌==◌, ◌∷◌, [], not, length, slice_index, sym, ap, ◌∙◌, rules}
 use Rattle.std.proofs.Math.Bool.{or-false}
 use Rattle.bloom_parts.specs.Content.{content}
-use Rattle.bloom_parts.proofs.PublishedLemmas.{content-zeros, many-next}
+use Rattle.bloom_parts.specs.Many.{is_new}
+use Rattle.bloom_parts.proofs.PublishedLemmas.{bits-next, many-next, no-bit}
 use Rattle.bloom_blocked.specs.Lines.{are_in_line, line_positions}
-use Rattle.bloom_blocked.specs.Many.{lines_after}
-use Rattle.bloom_blocked.proofs.TellLemmas.{tells-next}
 use Rattle.bloom_blocked.proofs.many.telling.insert_each_telling.Goals as goal
 
 pub hashes-init : goal.hashes-init
-hashes-init c =
-    let n = length c.args.words.now / 8 in
-    let k = c.args.num_hashes in
-    let F : ℕ → Bool = λ p. not (are_in_line n k (slice_index c.args.hashes.now p)
-    (lines_after n k (content c.args.words.now) c.args.hashes.now p)) in
-    record {
-      bits = λ p. content-zeros 1 p ∙ ap (λ b. b && F p) (sym (le-ltb p 0 (omega arith)));
-      content = λ p. sym (or-false (content c.args.words.now p));
-      shape = search rules;
-      at = search rules;
-    }
+hashes-init c = record {
+  bits = no-bit _;
+  content = λ p. sym (or-false (content c.args.words.now p));
+  shape = search rules;
+  at = search rules;
+}
 
 pub hashes-preserved : goal.hashes-preserved
 hashes-preserved c =
+    let on = line_positions (length c.args.words.now / 8) c.args.num_hashes in
+    let is_in = are_in_line (length c.args.words.now / 8) c.args.num_hashes in
+    let hashes = c.args.hashes.now in
+    let A = content c.args.words.now in
+    let i = c.hashes.hash-index in
     let before = c.hashes.invariant in
     let did = rw (before.shape) at c.insert_hash-was_set.ensures in
-    let early = c.hashes-test.true in
+    let told = did.reply ∙ ap (is_in (slice_index hashes i)) (λ j p. before.content p j) in
     record {
-      bits = tells-next _ _ _ (content c.hashes.words) c.args.hashes.now c.hashes.hash-index _ _ _
-          (omega (arith, early, c.requires.few)) before.bits before.content did.reply
-          (rw (before.at) at c.mask_where-fresh.ensures);
-      content = many-next (line_positions _ _) _ (content c.hashes.words) _ c.args.hashes.now _
-          early before.content did.content;
+      bits = bits-next (is_new on is_in A hashes) (content (c.hashes.fresh ∷ [])) _ i before.bits
+          (λ p. (rw (before.at) at c.with_bit-fresh.ensures) p
+          ∙ ap (λ b. content (c.hashes.fresh ∷ []) p || p == i && not b) told);
+      content = many-next on A (content c.hashes.words) _ hashes i c.hashes-test.true
+          before.content did.content;
       shape = search rules;
       at = search rules;
     }

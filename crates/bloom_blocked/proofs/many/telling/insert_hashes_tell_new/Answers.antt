@@ -2,8 +2,8 @@ use Rattle.std.proofs.Common.{◌≡◌, ◌≤◌, ◌*◌, ◌+◌, length, mi
 use Rattle.std.proofs.Math.Seq.{take-length}
 use Rattle.bloom_parts.specs.Content.{content}
 use Rattle.bloom_parts.proofs.PublishedLemmas.{many-stretch}
-use Rattle.bloom_blocked.specs.Lines.{line_positions}
-use Rattle.bloom_blocked.proofs.TellLemmas.{tells-turn}
+use Rattle.bloom_blocked.specs.Lines.{are_in_line, line_positions}
+use Rattle.bloom_blocked.proofs.TellLemmas.{new-part, tells-turn}
 use Rattle.bloom_blocked.proofs.many.telling.insert_hashes_tell_new.Goals as goal
 
 pub turns-preserved : goal.turns-preserved
@@ -21,9 +21,10 @@ turns-preserved c =
     let did = rw (c.turns.invariant.words_shape) at c.insert_word_telling.ensures in
     let shape = c.turns.invariant.fresh_shape in
     record {
-      bits = tells-turn hashes c.turns.fresh c.turns.turn end _ _ _ _
+      bits = tells-turn hashes c.turns.fresh c.turns.turn end _ _ _
           (omega (arith, shape, c.requires.room, early, turns)) ended more
-          (content c.turns.words) c.turns.invariant.bits before did.fresh;
+          (λ q small. new-part (are_in_line _ _) hashes at _ q small (line_positions _ _)
+          _ (content c.turns.words) before) c.turns.invariant.bits did.fresh;
       content = rw (next)
           (many-stretch (line_positions _ _) _ (content c.turns.words) _ hashes at end
           (omega (arith, ended, more)) before did.content);

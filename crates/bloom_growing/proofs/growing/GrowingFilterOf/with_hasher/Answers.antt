@@ -1,38 +1,40 @@
-mod Refused
-mod Rule
-use Rattle.std.proofs.Common.{◌≡◌, ◌∙◌, map, max, sym, refl, ap, arith}
+use Rattle.std.proofs.Common.{◌≡◌, ◌≤◌, map, max, refl, ap, arith}
+use Rattle.std.proofs.lemmas.Result.{err_from_is_err_and}
 use Rattle.bloom_growing.specs.Growing.{setup_of}
-use Rattle.bloom_growing.proofs.GrowingKeptLemmas.{is_number}
-use Rattle.bloom_growing.proofs.GrowingLemmas.{den_at-first}
-use Rattle.bloom_growing.proofs.growing.GrowingFilterOf.with_hasher.Answers.Refused.{error-rate, error-size, none-refused}
-use Rattle.bloom_growing.proofs.growing.GrowingFilterOf.with_hasher.Answers.Rule.{rule-kept}
+use Rattle.bloom_growing.proofs.GrowingKeptLemmas.{kept-begun, next-first}
 use Rattle.bloom_growing.proofs.growing.GrowingFilterOf.with_hasher.Goals as goal
 
-pub returns-in_err-newest_rate-clause-refused : goal.returns-in_err-newest_rate-clause-refused
-returns-in_err-newest_rate-clause-refused = error-rate
-
-pub returns-in_err-newest-clause-refused : goal.returns-in_err-newest-clause-refused
-returns-in_err-newest-clause-refused = error-size
+pub returns-in_err-first-clause-refused : goal.returns-in_err-first-clause-refused
+returns-in_err-first-clause-refused g c =
+    let refusal = c.from_residual in
+    let refused = err_from_is_err_and refusal.result refusal.ensures.1 in
+    rw (refused.1, refused.2)
+    (c.in_err-first.ensures.refused _ _ 0
+    (next-first c.args.rate (max 1 c.args.items) c.max-items.result
+    (omega (arith, c.max-items.ensures)) (omega arith)))
 
 pub returns-clause-refused : goal.returns-clause-refused
-returns-clause-refused = none-refused
+returns-clause-refused g c =
+    c.in_ok-first.ensures.refused _ _ 0
+    (next-first c.args.rate (max 1 c.args.items) c.max-items.result
+    (omega (arith, c.max-items.ensures)) (omega arith))
 
 pub invariant_of-result : goal.invariant_of-result
-invariant_of-result = rule-kept
+invariant_of-result g c =
+    let items = c.max-items.result in
+    let some : 1 ≤ items = omega (arith, c.max-items.ensures) in
+    kept-begun _ (setup_of c.args.rate items c.args.hasher) _ _ _ _ some c.requires
+    (ap (map g.F.GrowableFilter.seen) c.new.ensures.items)
+    (c.in_ok-first.ensures.made c.args.rate items 0 (next-first c.args.rate items items refl some))
 
 pub returns-clause-begun : goal.returns-clause-begun
 returns-clause-begun g c =
-    let seen = g.F.GrowableFilter.seen in
-    let half = c.in_ok-newest_rate.ensures in
-    let den = half.den ∙ sym (den_at-first c.args.rate) in
-    let setup = setup_of c.args.rate (max 1 c.args.items) c.args.hasher in
-    let room : c.max-room.result ≡ max 1 c.args.items = omega (arith, c.max-room.ensures) in
+    let asked = max 1 c.args.items in
+    let is : c.max-items.result ≡ asked = omega (arith, c.max-items.ensures) in
+    let next = next-first c.args.rate asked c.max-items.result is (omega arith) in
     record {
-      setup = ap (λ r. setup_of c.args.rate r c.args.hasher) room;
-      older = ap (map seen) c.new.ensures.items;
-      newest =
-          is_number _ setup 0 c.in_ok-newest_rate.newest_rate c.max-room.result
-          (seen c.in_ok-newest.newest) half.num den (omega (arith, c.max-room.ensures))
-          c.in_ok-newest.ensures.made;
+      setup = ap (λ r. setup_of c.args.rate r c.args.hasher) is;
+      older = ap (map g.F.GrowableFilter.seen) c.new.ensures.items;
+      newest = (c.in_ok-first.ensures.made c.args.rate asked 0 next).number;
       taken = refl;
     }

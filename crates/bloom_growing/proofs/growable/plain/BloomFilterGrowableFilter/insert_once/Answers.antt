@@ -1,7 +1,8 @@
+use Rattle.bloom_growing.specs.Kinds.{Plain}
 use Rattle.bloom_growing.proofs.KindLemmas.{insert-held}
 use Rattle.bloom_growing.proofs.growable.plain.BloomFilterGrowableFilter.insert_once.Goals as goal
 
 pub returns-clause-held : goal.returns-clause-held
 returns-clause-held c =
-    insert-held _ _ _ _ c.content_of_words.ensures.equality c.as_slice-before.ensures.range
+    insert-held Plain _ _ _ _ c.content_of_words.ensures.equality c.as_slice-before.ensures.range
     c.as_slice-after.ensures.range c.insert_hash-held.ensures.inserts
