@@ -15,8 +15,8 @@ use std::os::fd::AsFd;
 use std::rt::Files;
 use std::thread::Threads;
 use summaries_engine::{
-    AnyFilter, Form, Stop, blocked_facts_of, blocked_script_of, compare_named, facts_of, no_json,
-    put, put_file, script_of, twice, unite_named, unsaid, written,
+    AnyFilter, Form, Stop, compare_named, facts_of, no_json, put, put_file, script_of, twice,
+    unite_named, unsaid, written,
 };
 
 // The inputs of keys that the words tell.
@@ -113,11 +113,10 @@ fn facts_in(
     form: Form,
     is_json: bool,
 ) -> Result<String, AllocError> {
-    match filter {
-        AnyFilter::Classic(filter) if is_json => script_of(alloc, filter, form),
-        AnyFilter::Classic(filter) => facts_of(alloc, filter, form),
-        AnyFilter::Blocked(filter) if is_json => blocked_script_of(alloc, filter, form),
-        AnyFilter::Blocked(filter) => blocked_facts_of(alloc, filter, form),
+    if is_json {
+        script_of(alloc, filter, form)
+    } else {
+        facts_of(alloc, filter, form)
     }
 }
 

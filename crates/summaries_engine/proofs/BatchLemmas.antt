@@ -1,6 +1,6 @@
 -- Keys at the front of some bytes, cut off one after the other, their hashes and their answers.
-use Rattle.std.proofs.Common.{◌≡◌, ℕ, zero, suc, ◌+◌, ◌<◌, ◌≤◌, Bool, true, false, get_or, List, [], ◌∷◌, ◌++◌, map, length, length-append, take, drop, take-append-drop, Option, refl, sym, subst, ◌∙◌, ap, append_assoc, append-nil, arith}
-use Rattle.std.proofs.Math.Seq.{drop-cons, take-suc-set}
+use Rattle.std.proofs.Common.{◌≡◌, ℕ, suc, ◌+◌, ◌<◌, ◌≤◌, Bool, true, false, get_or, List, [], ◌∷◌, ◌++◌, map, length, length-append, take, Option, refl, sym, subst, ◌∙◌, ap, append_assoc, append-nil, arith}
+use Rattle.std.proofs.Math.Seq.{take-suc-set}
 use Rattle.std.proofs.lemmas.List.{map-append}
 use Rattle.std.proofs.lemmas.List.Elements.{All-append, All-from_recursion, All-nil}
 use Rattle.std.proofs.KnownBytes.{Appends-nil, Appends-trans}
@@ -11,7 +11,6 @@ use Rattle.bloom_parts.specs.Content.{content}
 use Rattle.std.specs.Io.KnownBytes.{Appends}
 use Rattle.bloom_parts.specs.Sip.{sip}
 use Rattle.lines.specs.Lines.{lines_by}
-use Rattle.lines.specs.Reading.{HasEndAtBy}
 use Rattle.lines.specs.Writing.{AppendsPart}
 use Rattle.lines.proofs.LineLemmas.{IsEnded-append, IsEnded-line, IsEnded-nil, lines_by-ended, lines_by-nil}
 use Rattle.lines.proofs.WritingLemmas.{part-second}
@@ -22,34 +21,6 @@ use Rattle.summaries_engine.specs.Batches.{AnswersFirst, AnswersPart, CutsKey, C
 use Rattle.summaries_engine.specs.Kinds.{TellsEach, has_hash}
 use Rattle.summaries_engine.specs.Summaries.{hash_in}
 use Rattle.summaries_engine.proofs.AskingLemmas.{wanted_text-append}
-
--- a key is cut off with the end that was found
-pub cuts-at : (end : ℕ) (bytes : List ℕ) (at : ℕ) → HasEndAtBy end bytes at → at ≤ 65536
-    → CutsKey end bytes (take at bytes) (drop (at + 1) bytes)
-cuts-at end bytes at found short =
-    let next : suc at ≡ at + 1 = omega arith in
-    record {
-      cut =
-          sym (take-append-drop at bytes)
-          ∙ ap (λ l. take at bytes ++ l)
-          (drop-cons bytes at 0 found.within
-          ∙ ap (λ b. b ∷ drop (suc at) bytes) found.ended
-          ∙ ap (λ n. end ∷ drop n bytes) next);
-      inside = found.inside;
-      short = few at bytes short;
-    }
-  where
-    few : (at : ℕ) (bytes : List ℕ) → at ≤ 65536 → length (take at bytes) ≤ 65536
-    few zero bytes low = omega arith
-    few (suc at) [] low = omega arith
-    few (suc at) (b ∷ bytes) low = cut at bytes 65536 low
-      where
-        cut : (n : ℕ) (l : List ℕ) (m : ℕ) → suc n ≤ m → suc (length (take n l)) ≤ m
-        cut zero l m low = omega (arith, low)
-        cut (suc n) [] m low = omega (arith, low)
-        cut (suc n) (x ∷ l) zero low = absurd (omega (arith, low))
-        cut (suc n) (x ∷ l) (suc m) low =
-            let less = cut n l m (omega (arith, low)) in omega (arith, less)
 
 -- no key was cut off
 pub cuts-none : (end : ℕ) (bytes : List ℕ) → CutsKeys end bytes bytes []

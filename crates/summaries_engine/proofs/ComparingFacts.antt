@@ -9,7 +9,7 @@ use Rattle.bloom_parts.specs.Keys.{key_of}
 use Rattle.bloom_parts.specs.declared.math.bracket.Bracket.{Bracket}
 use Rattle.summaries_engine.specs.declared.kinds.AnyFilter.TheVariants.{Blocked}
 use Rattle.summaries_engine.specs.declared.stop.Stop.TheVariants.{Memory, Output}
-use Rattle.summaries_engine.specs.Comparing.{ComparesNamed, StopsComparing, TellsBoth, bits_text, ones_of_both}
+use Rattle.summaries_engine.specs.Comparing.{ComparesNamed, StopsComparing, TellsBoth}
 use Rattle.summaries_engine.specs.Kinds.{parts_of}
 use Rattle.summaries_engine.proofs.Cases.{counted, filter, from, from_to, never}
 
@@ -67,18 +67,6 @@ tells-both = (
       let letter : ◌≡◌ {A = ℕ} 115 102 = ap (λ t. get_or t 0 0) told.is in
       absurd (omega (arith, letter)),
 )
-
--- one bit is set in both of two words, and two are in both where they are one
-ones-both : (ones_of_both (filter 3) (filter 6) ≡ 1) × (ones_of_both (filter 3) (filter 3) ≡ 2)
-unfolding content count_on
-ones-both = (refl, refl)
-
--- the four lines of bits
-lines-of-bits : bits_text 1 2 3 4
-    ≡ codes "bits set in first: 1\nbits set in second: 2\n"
-    ++ codes "bits set in union: 3\nbits set in both: 4\n"
-unfolding digits
-lines-of-bits = refl
 
 -- blocked filters that lie under their words are told by their bits. Filters aren't compared where
 -- their keys or their numbers of hashes differ

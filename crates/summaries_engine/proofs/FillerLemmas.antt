@@ -1,5 +1,5 @@
 -- Filters of either kind that take hashes, and the summaries that come of it.
-use Rattle.std.proofs.Common.{◌≡◌, ◌⊎◌, inl, inr, ℕ, ◌/◌, ◌||◌, List, [], ◌++◌, map, refl, sym, subst, ◌∙◌, ap, append_assoc, append-nil}
+use Rattle.std.proofs.Common.{ℕ, ◌/◌, ◌||◌, List, [], ◌++◌, map, refl, sym, subst, ◌∙◌, ap, append_assoc, append-nil}
 use Rattle.bloom_parts.specs.Keys.{HasKey, key_of}
 use Rattle.bloom_parts.specs.Sip.{sip}
 use Rattle.fastbloom.specs.Blocked.{InsertsAllInLines, num_lines_of}
@@ -62,11 +62,6 @@ takes-in-lines old new hashes did = record {
   hasher = did.hasher;
 }
 
--- of two reasons of which one never holds the other does
-pub first-of : {A : Type 0} → A ⊎ ⊥ → A
-first-of (inl is) = is
-first-of (inr never) = absurd never
-
 -- an empty filter is filled with no hash
 pub filled-empty : (shape : Shape) (f : AnyFilter) → IsEmpty (parts_of f)
     → IsShapeOf (parts_of f) shape → IsFilled shape [] f
@@ -97,34 +92,6 @@ module _ (empty made : AnyFilter) (hashes : List ℕ) (is : IsEmpty (parts_of em
         (sym did.hasher))
         (did.filled shape [] (filled-empty shape empty is fits));
   }
-
-module _ {F : Type 0} (took : F → List ℕ → F → Type 0) (first old new : F)
-    (waiting hashes : List ℕ) where
-  -- the hashes that waited were taken, too
-  pub taken-given : ((start : F) (before : List ℕ) → took start before old
-      → took start (before ++ waiting) new) → HasTaken took first old waiting hashes
-      → HasTaken took first new [] hashes
-  taken-given takes has = record {
-    earlier = has.earlier ++ waiting;
-    taken = takes first has.earlier has.taken;
-    are = has.are ∙ sym (append-nil (has.earlier ++ waiting));
-  }
-
-  -- further hashes wait
-  pub taken-joined : (given more : List ℕ) → more ≡ waiting ++ given
-      → HasTaken took first old waiting hashes → HasTaken took first old more (hashes ++ given)
-  taken-joined given more joined has = record {
-    earlier = has.earlier;
-    taken = has.taken;
-    are =
-        ap (λ l. l ++ given) has.are ∙ append_assoc has.earlier waiting given
-        ∙ ap (λ l. has.earlier ++ l) (sym joined);
-  }
-
--- none was taken yet
-pub taken-none : {F : Type 0} (took : F → List ℕ → F → Type 0) → ((f : F) → took f [] f)
-    → (first : F) → HasTaken took first first [] []
-taken-none took none first = record { earlier = []; taken = none first; are = refl }
 
 -- where none waits any more, all hashes were taken
 pub taken-all : {F : Type 0} (took : F → List ℕ → F → Type 0) (first now : F) (hashes : List ℕ)

@@ -1,6 +1,6 @@
 -- Keys of several inputs, each of which has the bytes of its own name: cases that hold, and the
 -- nearest that don't.
-use Rattle.std.proofs.Common.{◌≡◌, ℕ, true, false, List, [], ◌∷◌, length, map, get_or, Some, refl, sym, ap, subst, ◌∙◌, arith}
+use Rattle.std.proofs.Common.{◌≡◌, ℕ, true, false, List, [], ◌∷◌, length, Some, refl, sym, ap, subst, ◌∙◌, arith}
 use Rattle.bloom_parts.specs.Chain.{chain}
 use Rattle.bloom_parts.specs.Content.{content}
 use Rattle.bloom_parts.specs.Places.{are_in, positions}
@@ -10,7 +10,7 @@ use Rattle.fastbloom.specs.Fill.{positions_of_all}
 use Rattle.summaries_engine.specs.declared.answers.Wanted.TheVariants.{Found, Absent}
 use Rattle.summaries_engine.specs.declared.kinds.AnyFilter.TheVariants.{Classic}
 use Rattle.summaries_engine.specs.Answers.{IsKeyed, wanted_text}
-use Rattle.summaries_engine.specs.Inputs.{AnswersInputs, HashesInputs, SummarizesInputs}
+use Rattle.summaries_engine.specs.Inputs.{AnswersInputs, SummarizesInputs}
 use Rattle.summaries_engine.specs.Summaries.{IsSummaryOf}
 use Rattle.summaries_engine.proofs.Cases.{both-keys, hash-a, key_a, key_b, made_of, of_a, of_b, one-key, own, shape, summary-a}
 
@@ -21,24 +21,6 @@ unfolding whole_words rest
 keyed = (
   record { low = refl; high = refl; words = refl; held = refl; count = refl },
   λ f one is. let wrong : 1 ≡ 0 = sym one ∙ is.count in omega (arith, wrong),
-)
-
--- the hashes of both inputs come in order, and the hash of "a" isn't that of "b"
-hashes : HashesInputs own (0, 0) 10 (key_a ∷ (98 ∷ 10 ∷ []) ∷ [])
-    (0x4074_48d2_b89b_1813 ∷ 0x8b22_cf26_02fb_60ce ∷ [])
-    × (HashesInputs own (0, 0) 10 (key_a ∷ []) (0x8b22_cf26_02fb_60ce ∷ []) → ⊥)
-unfolding sip start round absorb answer whole_words rest
-hashes = (
-  record {
-    parts = (key_a ∷ []) ∷ (key_b ∷ []) ∷ [];
-    keys = both-keys;
-    hashed = refl;
-  },
-  λ is.
-      let same : ◌≡◌ {A = List ℕ} (0x8b22_cf26_02fb_60ce ∷ []) (0x4074_48d2_b89b_1813 ∷ []) =
-      is.hashed ∙ ap (map (sip 0 0)) (one-key is.parts is.keys) in
-      let wrong : 0x8b22_cf26_02fb_60ce ≡ 0x4074_48d2_b89b_1813 = ap (λ l. get_or l 0 0) same in
-      omega (arith, wrong),
 )
 
 -- the summary of the keys of an input isn't that of other keys

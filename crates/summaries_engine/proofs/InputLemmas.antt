@@ -1,8 +1,8 @@
 -- Inputs that were taken one after the other.
-use Rattle.std.proofs.Common.{◌≡◌, zero, suc, ◌<◌, ◌≤◌, ℕ, ◌+◌, inl, inr, List, [], ◌∷◌, ◌++◌, map, length, get_or, take, Bor, Option, refl, sym, subst, ◌∙◌, ap, arith, append-nil}
+use Rattle.std.proofs.Common.{◌≡◌, ◌<◌, ◌≤◌, ℕ, ◌+◌, inl, inr, List, [], ◌∷◌, ◌++◌, map, length, get_or, take, Bor, Option, sym, subst, ◌∙◌, ap, append-nil}
 use Rattle.std.proofs.KnownBytes.{Appends-trans}
 use Rattle.std.proofs.lemmas.Grind.{flat_map-append}
-use Rattle.std.proofs.lemmas.List.{length-map, map-append, take_all, take_more}
+use Rattle.std.proofs.lemmas.List.{map-append}
 use Rattle.std.specs.Io.KnownBytes.{Appends}
 use Rattle.bloom_parts.specs.Sip.{sip}
 use Rattle.summaries_engine.specs.declared.kinds.AnyFilter.{AnyFilter}
@@ -16,6 +16,7 @@ use Rattle.summaries_engine.specs.Inputs.{HasKeys, HashesInputs, HaveKeys, Lies,
 use Rattle.summaries_engine.specs.Stops.{StopsAnswers, StopsHashing}
 use Rattle.summaries_engine.specs.Summaries.{joined}
 use Rattle.summaries_engine.proofs.AskingLemmas.{wanted_text-append}
+use Rattle.summaries_engine.proofs.NameLemmas.{names-all, names-from, next-name, texts}
 
 -- all keys of one input more
 HaveKeys-more : (lies : Lies) (end : ℕ) (names : List (List ℕ)) (name : List ℕ)
@@ -80,28 +81,6 @@ answers-after f wanted end name earlier read from mid to stop wrote (inr cut) = 
   says = cut.says;
 })
 
--- the texts of names
-abbrev texts : List (Bor (List ℕ)) → List (List ℕ)
-texts names = map (λ name. name.now) names
-
--- the text at a place
-text-at : (names : List (Bor (List ℕ))) (count : ℕ) (other : Bor (List ℕ)) → count < length names
-    → (get_or names count other).now ≡ get_or (texts names) count []
-text-at [] count other within = absurd (omega (arith, within))
-text-at (name ∷ names) zero other within = refl
-text-at (name ∷ names) (suc count) other within =
-    text-at names count other (omega (arith, within))
-
--- names up to a place, and then the others
-names-from : (names : List (Bor (List ℕ))) (count : ℕ) (other : Bor (List ℕ))
-    → count < length names → (after : List (List ℕ))
-    × (texts names ≡ take count (texts names) ++ (get_or names count other).now ∷ after)
-names-from [] count other within = absurd (omega (arith, within))
-names-from (name ∷ names) zero other within = (texts names, refl)
-names-from (name ∷ names) (suc count) other within =
-    let rest = names-from names count other (omega (arith, within)) in
-    (rest.0, ap (λ l. name.now ∷ l) rest.1)
-
 -- behind the last name all inputs were hashed
 pub hashed-all : {lies : Lies} {key : ℕ × ℕ} {end : ℕ} (names : List (Bor (List ℕ)))
     (count : ℕ) {hashes : List ℕ} → length names ≤ count
@@ -110,22 +89,13 @@ pub hashed-all : {lies : Lies} {key : ℕ × ℕ} {end : ℕ} (names : List (Bor
 hashed-all {lies = lies} {end = end} names count last so_far = record {
   parts = so_far.parts;
   keys = subst (λ l. HaveKeys lies end l so_far.parts)
-      (take_all count (texts names)
-      (subst (λ n. n ≤ count) (sym (length-map names (λ name. name.now))) last))
+      (names-all names count last)
       so_far.keys;
   hashed = so_far.hashed;
 }
 
 module _ (lies : Lies) (end : ℕ) (names : List (Bor (List ℕ))) (count : ℕ)
     (other : Bor (List ℕ)) (within : count < length names) where
-  -- the first names and the next
-  next-name : take (count + 1) (texts names)
-      ≡ take count (texts names) ++ (get_or names count other).now ∷ []
-  next-name =
-      take_more (texts names) count []
-      (subst (λ n. count < n) (sym (length-map names (λ name. name.now))) within)
-      ∙ ap (λ n. take count (texts names) ++ n ∷ []) (sym (text-at names count other within))
-
   -- one input more was hashed
   pub hashed-more : {key : ℕ × ℕ} {read left : Option (List ℕ)} {hashes more : List ℕ}
       → AreHashed lies key end (texts names) count hashes
@@ -133,7 +103,8 @@ module _ (lies : Lies) (end : ℕ) (names : List (Bor (List ℕ))) (count : ℕ)
       → AreHashed lies key end (texts names) (count + 1) more
   hashed-more {key = key} {read = read} {left = left} {hashes = hashes} so_far there all = record {
     parts = so_far.parts ++ all.keys ∷ [];
-    keys = subst (λ l. HaveKeys lies end l (so_far.parts ++ all.keys ∷ [])) (sym next-name)
+    keys = subst (λ l. HaveKeys lies end l (so_far.parts ++ all.keys ∷ []))
+        (sym (next-name names count other within))
         (HaveKeys-more lies end (take count (texts names)) (get_or names count other).now
         so_far.parts all.keys so_far.keys (record {
           read = read;
@@ -156,7 +127,8 @@ module _ (lies : Lies) (end : ℕ) (names : List (Bor (List ℕ))) (count : ℕ)
   answered-more {f = f} {wanted = wanted} {read = read} {left = left} {from = from} {to = to}
       {more = more} so_far there all = record {
         parts = so_far.parts ++ all.keys ∷ [];
-        keys = subst (λ l. HaveKeys lies end l (so_far.parts ++ all.keys ∷ [])) (sym next-name)
+        keys = subst (λ l. HaveKeys lies end l (so_far.parts ++ all.keys ∷ []))
+            (sym (next-name names count other within))
             (HaveKeys-more lies end (take count (texts names)) (get_or names count other).now
             so_far.parts all.keys so_far.keys (record {
               read = read;

@@ -3,11 +3,9 @@ mod BatchLemmas
 mod BothLemmas
 mod Cases
 mod ComparingFacts
-mod ComparingLemmas
 mod CrewLemmas
 mod EmptyLemmas
 mod FilledLemmas
-mod FillerFacts
 mod FillerLemmas
 mod InputFacts
 mod InputLemmas
@@ -16,10 +14,8 @@ mod KeyLemmas
 mod KindFacts
 mod LoadedFacts
 mod LoadedLemmas
-mod MisfitLemmas
+mod NameLemmas
 mod NamedFacts
-mod NamedLemmas
-mod NamingLemmas
 mod RefusalFacts
 mod RefusalLemmas
 mod SealLemmas

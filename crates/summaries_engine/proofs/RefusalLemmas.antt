@@ -1,40 +1,16 @@
 -- Filters that aren't united, and keys that are too long.
-use Rattle.std.proofs.Common.{◌≡◌, ℕ, ◌+◌, ◌-◌, ◌^◌, min, codes, decimal, arith, length, length-append, get_or, List, [], ◌∷◌, ◌++◌, Option, Some, refl, sym, subst, ◌∙◌}
+use Rattle.std.proofs.Common.{◌≡◌, ℕ, ◌+◌, ◌-◌, ◌^◌, min, codes, decimal, arith, get_or, List, ◌∷◌, ◌++◌, Some, sym, subst, ◌∙◌}
 use Rattle.std.proofs.lemmas.Fmt.{decimal-digits_of}
 use Rattle.std.proofs.lemmas.List.Elements.{All-head, All-tail}
-use Rattle.std.specs.Prelude.{All, Result}
-use Rattle.std.specs.Iterator.{Yields}
+use Rattle.std.specs.Prelude.{All}
 use Rattle.anyhow.specs.Error.{HasMessage}
 use Rattle.anyhow.specs.declared.error.Error.{Error}
 use Rattle.summaries_engine.specs.declared.kinds.AnyFilter.{AnyFilter}
 use Rattle.summaries_engine.specs.declared.unions.Difference.{Difference}
 use Rattle.summaries_engine.specs.declared.unions.Difference.TheVariants as difference
-use Rattle.summaries_engine.specs.declared.unions.Refusal.{Refusal}
 use Rattle.summaries_engine.specs.Kinds.{HaveSameKind, HaveOneShape}
-use Rattle.summaries_engine.specs.Refusals.{DiffersBy, Fits, IsRefusedFor, RefusesGiven, too_long_text}
+use Rattle.summaries_engine.specs.Refusals.{DiffersBy, Fits, too_long_text}
 use Rattle.summaries_engine.specs.Summaries.{HaveSameKey, IsUnionOf}
-
--- one item more
-yields-more : {I X : Type 0} (steps : I → Option X → I → Type 0) (start last end : I)
-    (items : List X) (item : X) → Yields steps start items last → steps last (Some item) end
-    → Yields steps start (items ++ item ∷ []) end
-yields-more steps start last end [] item came next =
-    (end, subst (λ s. steps s (Some item) end) (sym came) next, refl)
-yields-more steps start last end (x ∷ items) item came next =
-    (came.0, came.1, yields-more steps came.0 last end items item came.2 next)
-
--- where the item is the last that was asked for, it is what the refusal is about
-pub stops : {I E : Type 0} (steps : I → Option (Result AnyFilter E) → I → Type 0)
-    (start last end : I) (items : List (Result AnyFilter E)) (item : Result AnyFilter E)
-    (first : AnyFilter) (refusal : Refusal E) → Yields steps start items last
-    → steps last (Some item) end → IsRefusedFor first (items ++ item ∷ []) refusal
-    → RefusesGiven steps start first refusal
-stops steps start last end items item first refusal came next refused = record {
-  given = items ++ item ∷ [];
-  end = end;
-  came = yields-more steps start last end items item came next;
-  refused = refused;
-}
 
 -- two filters of a third one's shape have one shape
 shape-of : (whole first f : AnyFilter) → HaveOneShape whole first → HaveOneShape whole f
@@ -83,13 +59,6 @@ misfit-differs first whole shard others how differs union =
       shape = All-head (HaveOneShape whole) first others union.shape;
       key = All-head (HaveSameKey whole) first others union.key;
     }) differs
-
--- the count of one filter more
-pub counted-more : (most number next : ℕ) (others : List AnyFilter) (shard : AnyFilter)
-    → number ≡ min (length others + 1) most → next ≡ min (number + 1) most
-    → next ≡ min (length (others ++ shard ∷ []) + 1) most
-counted-more most number next others shard so_far more =
-    simp length-append (omega (arith, so_far, more))
 
 -- ---- a key that is too long
 

@@ -1,10 +1,6 @@
 -- The theorem of shards, by the laws of filled filters.
 use Rattle.std.proofs.Common.{◌≡◌, ℕ, ◌<◌, List, [], ◌∷◌, length, map, get_or, sym, subst, ◌∙◌, ap}
-use Rattle.std.specs.Prelude.{Result, Option, None}
-use Rattle.std.specs.Iterator.{Yields}
-use Rattle.std.specs.Iterator.Runs.{WholeRun}
 use Rattle.std.specs.List.{Contains}
-use Rattle.std.proofs.iter.runs.Made.{run_of_exit}
 use Rattle.std.proofs.lemmas.List.{length-map, get_or-map, get_or_default}
 use Rattle.bloom_parts.specs.Content.{AreWords}
 use Rattle.bloom_parts.specs.Sip.{sip}
@@ -13,7 +9,7 @@ use Rattle.fastbloom.specs.Fill.{HaveSameHashes, AnyCuttingLaw, FilledContainsLa
 use Rattle.fastbloom.specs.Laws.{EqualContentLaw, EqualityLaw}
 use Rattle.fastbloom.specs.Lines.{LineSubsetLaw}
 use Rattle.summaries_engine.specs.Kinds.{parts_of}
-use Rattle.summaries_engine.specs.Summaries.{IsFilled, hash_in, joined, HaveSameKeys, IsUnionOf, UnitesShards, UnitesGiven}
+use Rattle.summaries_engine.specs.Summaries.{IsFilled, hash_in, joined, HaveSameKeys, IsUnionOf, UnitesShards}
 use Rattle.summaries_engine.proofs.FilledLemmas.{Builder, filled-alike, filled-contains}
 use Rattle.summaries_engine.proofs.UnionLemmas.{summary-joined}
 
@@ -72,13 +68,3 @@ unites-shards first others made equality contents cutting contains_all subset wo
       (summary-joined shape made first others parts each union)
       (hash-of-key (hash_in made) (joined parts) key given);
 }
-
--- when the iterator has ended, those were all filters
-pub unites-whole : {I E : Type 0} (steps : I → Option (Result AnyFilter E) → I → Type 0)
-    (start last end : I) (first : AnyFilter) (items : List (Result AnyFilter E))
-    (made : AnyFilter) → Yields steps start items last → steps last None end
-    → UnitesGiven first items made
-    → WholeRun steps start (λ run. UnitesGiven first run.items made)
-unites-whole steps start last end first items made came ended did =
-    let run = run_of_exit steps start items last came end ended in
-    (run.0, run.1, run.2, subst (λ l. UnitesGiven first l made) (sym run.3.0) did)

@@ -1,5 +1,5 @@
 -- Keys of one input that weren't taken to their end.
-use Rattle.std.proofs.Common.{◌≡◌, inl, inr, ℕ, ◌-◌, ◌^◌, ◌≤◌, codes, List, [], ◌∷◌, ◌++◌, length, Option, Some, None, refl, sym, subst, ◌∙◌}
+use Rattle.std.proofs.Common.{◌≡◌, inl, inr, ℕ, ◌-◌, ◌≤◌, List, [], ◌∷◌, ◌++◌, length, Option, Some, None, refl, sym, subst}
 use Rattle.std.proofs.lemmas.List.Elements.{All-nil}
 use Rattle.std.proofs.KnownBytes.{Appends-kept}
 use Rattle.std.specs.Io.KnownBytes.{Keeps}
@@ -14,7 +14,7 @@ use Rattle.summaries_engine.specs.declared.stop.Stop.{Stop}
 use Rattle.summaries_engine.specs.declared.stop.Stop.TheVariants.{Memory}
 use Rattle.summaries_engine.specs.Answers.{wanted_text}
 use Rattle.summaries_engine.specs.Refusals.{too_long_text}
-use Rattle.summaries_engine.specs.Stops.{IsBad, IsMemory, IsReasonAfter, IsUnreadable, IsUnwritten, Says, StopsAfter, StopsAnswers, StopsHashing, StopsWriting}
+use Rattle.summaries_engine.specs.Stops.{IsBad, IsReasonAfter, IsUnreadable, IsUnwritten, Says, StopsAfter, StopsAnswers, StopsHashing, StopsWriting}
 use Rattle.summaries_engine.proofs.AskingLemmas.{IsAnswering, part-whole, wanted_text-append}
 use Rattle.summaries_engine.proofs.KeyLemmas.{IsTaking, read-next}
 
@@ -59,13 +59,6 @@ module _ {end : ℕ} {name : List ℕ} {read left : Option (List ℕ)} {reader :
     ));
   }
 
-  -- keys aren't taken on where no number is left
-  pub why-many : number ≡ 2 ^ 64 - 1 → IsBad (Says (name ++ codes ": it has too many keys")) stop
-      → Why end name read reader left number stop
-  why-many all says = record {
-    reason = λ keys counted taken. inr (inr (sym counted ∙ all, says));
-  }
-
   -- hashing stops for a reason why the keys so far aren't taken on
   pub hashing-stops : {F : Type 0} {took : F → List ℕ → F → Type 0} {key : ℕ × ℕ} {from now : F}
       {waited waits : List ℕ} → IsTaking took key end read reader left number from now waited waits
@@ -90,14 +83,6 @@ module _ {end : ℕ} {name : List ℕ} {read left : Option (List ℕ)} {reader :
     done = so_far.text;
     reason = why.reason so_far.keys so_far.counted so_far.has_read.taken;
   })
-
--- hashing stops where there is no memory for the hash of the next key
-pub hashing-room : {F : Type 0} {took : F → List ℕ → F → Type 0} {key : ℕ × ℕ} {end : ℕ}
-    {name : List ℕ} {read left : Option (List ℕ)} {reader : Waiting} {number : ℕ} {from now : F}
-    {waited waits : List ℕ} {stop : Stop}
-    → IsTaking took key end read reader left number from now waited waits → IsMemory stop
-    → StopsHashing end name read stop
-hashing-room so_far memory = hashing-stops so_far (why-read (inl memory))
 
 -- the answers so far were written, and a flush of them failed
 pub asking-unflushed : {f : AnyFilter} {wanted : Wanted} {end : ℕ}

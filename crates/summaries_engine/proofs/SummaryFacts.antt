@@ -1,8 +1,7 @@
 -- What filters are to keys, and united filters to the keys of all: cases that hold, and the nearest
 -- that don't.
-use Rattle.std.proofs.Common.{◌≡◌, ◌⊎◌, inl, inr, ℕ, true, false, ◌||◌, List, [], ◌∷◌, map, refl, sym, subst, ap, ◌∙◌, lit<, arith}
+use Rattle.std.proofs.Common.{◌≡◌, ◌⊎◌, inl, inr, ℕ, true, false, ◌||◌, List, [], ◌∷◌, refl, sym, ap, ◌∙◌, lit<, arith}
 use Rattle.std.specs.List.{Contains}
-use Rattle.std.specs.Prelude.{Ok, Err, Result}
 use Rattle.std.proofs.lemmas.Grind.{common_steps}
 use Rattle.bloom_parts.specs.Chain.{chain}
 use Rattle.bloom_parts.specs.Content.{content, AreWords}
@@ -12,9 +11,8 @@ use Rattle.fastbloom.specs.Data.{DefaultFilter}
 use Rattle.fastbloom.specs.Fill.{positions_of_all}
 use Rattle.fastbloom.specs.Filter.{contains}
 use Rattle.fastbloom.specs.Lines.{LineRangeLaw}
-use Rattle.summaries_engine.specs.declared.kinds.AnyFilter.{AnyFilter}
 use Rattle.summaries_engine.specs.declared.kinds.AnyFilter.TheVariants.{Classic, Blocked}
-use Rattle.summaries_engine.specs.Summaries.{HaveSameKey, HaveSameKeys, IsSummaryOf, UnitesGiven, UnitesShards, hash_in}
+use Rattle.summaries_engine.specs.Summaries.{HaveSameKey, HaveSameKeys, IsSummaryOf, UnitesShards, hash_in}
 use Rattle.summaries_engine.proofs.Cases.{filter, hash-a, key_a, key_b, line, line_shape, made_of, of_a, of_b, of_both, shape, summary-a, summary-b, summary-line}
 
 -- the hash of "a" is that under both words of a filter's key
@@ -119,26 +117,3 @@ shards = (
   ),
   λ unites. let wrong : false ≡ true = unites.union.bits 34 in cc,
 )
-
--- what was given is united with the first, and an error isn't
-given : ((made : AnyFilter) → UnitesGiven {E = ℕ} of_a (Ok of_b ∷ []) made
-    → UnitesShards (of_a ∷ of_b ∷ []) made)
-    × ((made : AnyFilter) → UnitesGiven {E = ℕ} of_a (Err 4 ∷ []) made → ⊥)
-given = (
-  λ made did. of made did.others did.all_read did.unites,
-  λ made did. none did.others did.all_read,
-)
-  where
-    of : (made : AnyFilter) (others : List AnyFilter)
-        → ◌≡◌ {A = List (Result AnyFilter ℕ)} (Ok of_b ∷ []) (map Ok others)
-        → UnitesShards (of_a ∷ others) made → UnitesShards (of_a ∷ of_b ∷ []) made
-    of made [] is unites = cc (is)
-    of made (f ∷ []) is unites =
-        let same : ◌≡◌ {A = AnyFilter} f of_b = cc (is) in
-        subst (λ g. UnitesShards (of_a ∷ g ∷ []) made) same unites
-    of made (f ∷ g ∷ others) is unites = cc (is)
-
-    none : (others : List AnyFilter)
-        → ◌≡◌ {A = List (Result AnyFilter ℕ)} (Err 4 ∷ []) (map Ok others) → ⊥
-    none [] is = cc (is)
-    none (f ∷ others) is = cc (is)

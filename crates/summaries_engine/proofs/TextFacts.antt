@@ -8,8 +8,9 @@ use Rattle.bloom_parts.specs.Estimates.{EstimatesItems}
 use Rattle.bloom_parts.specs.Powers.{rounded_power}
 use Rattle.fastbloom.specs.Data.{DefaultFilter}
 use Rattle.summaries_engine.specs.declared.form.Form.TheVariants.{Sealed, Unsealed, Json}
-use Rattle.summaries_engine.specs.Facts.{TellsFilter, blocked_text, lines_text, rate_of_text}
-use Rattle.summaries_engine.specs.Scripts.{TellsScript, blocked_script, classic_script, parts_script, rate_script}
+use Rattle.summaries_engine.specs.declared.kinds.AnyFilter.TheVariants.{Classic, Blocked}
+use Rattle.summaries_engine.specs.Facts.{TellsFilter, estimates_text, lines_text, rate_of_text}
+use Rattle.summaries_engine.specs.Scripts.{TellsScript, parts_script, rate_script}
 use Rattle.summaries_engine.proofs.Cases.{from, from_to, line, made_of}
 
 -- two of 64 bits are set under the key of the bytes 0 to 15, and all under the zero key
@@ -34,10 +35,11 @@ lines_of_all =
 
 -- the lines tell the filters, if these are the bounds of their items, and none that came as JSON
 tells-filter : (EstimatesItems 64 2 2 (from_to 1 2 (lit≤ tt))
-    → TellsFilter two_set Sealed lines_of_two)
-    × (EstimatesItems 64 2 64 (from 9) → TellsFilter all_set Unsealed lines_of_all)
-    × (TellsFilter two_set Json lines_of_two → ⊥)
-unfolding padded_integral digits char_count content count_on lines_text rate_of_text rounded_power
+    → TellsFilter (Classic two_set) Sealed lines_of_two)
+    × (EstimatesItems 64 2 64 (from 9) → TellsFilter (Classic all_set) Unsealed lines_of_all)
+    × (TellsFilter (Classic two_set) Json lines_of_two → ⊥)
+unfolding padded_integral digits char_count content count_on lines_text estimates_text
+    rate_of_text rounded_power
 tells-filter = (
   λ estimates. record { items = from_to 1 2 (lit≤ tt); estimates = estimates; is = refl },
   λ estimates. record { items = from 9; estimates = estimates; is = refl },
@@ -47,10 +49,10 @@ tells-filter = (
 )
 
 -- of a blocked filter neither items nor a rate are told
-tells-blocked : blocked_text (line 5) Sealed
-    ≡ codes "kind: blocked\nform: file, sealed\nbits: 512\nhashes: 2\n"
-    ++ codes "key: 00000000000000000000000000000000\nbits set: 2 (0.39 %)\n"
-unfolding padded_integral digits char_count content count_on
+tells-blocked : TellsFilter (Blocked (line 5)) Sealed
+    (codes "kind: blocked\nform: file, sealed\nbits: 512\nhashes: 2\n"
+    ++ codes "key: 00000000000000000000000000000000\nbits set: 2 (0.39 %)\n")
+unfolding padded_integral digits char_count content count_on lines_text
 tells-blocked = refl
 
 abbrev script_of_two : List ℕ
@@ -67,43 +69,22 @@ script_of_all =
     ++ (codes "\"items_low\":9,\"items_high\":null,"
     ++ codes "\"rate_low\":1.000000000,\"rate_high\":1.000000000}\n"))
 
--- the same in JSON, with an estimate of the items
-tells-classic_script : (classic_script two_set Sealed (from_to 1 2 (lit≤ tt)) ≡ script_of_two)
-    × (classic_script all_set Json (from 9) ≡ script_of_all)
-    × (classic_script two_set Json (from_to 1 2 (lit≤ tt)) ≡ script_of_two → ⊥)
-unfolding parts_script rate_script padded_integral digits char_count content count_on rounded_power
-tells-classic_script = (
-  refl,
-  refl,
-  λ is.
-      let letter : ◌≡◌ {A = ℕ} 74 102 = ap (λ t. get_or t 26 0) is in
-      absurd (omega (arith, letter)),
-)
-
--- the estimate has to be one of the filter's
+-- the same in JSON
 tells-script : (EstimatesItems 64 2 2 (from_to 1 2 (lit≤ tt))
-    → TellsScript two_set Sealed script_of_two)
-    × (EstimatesItems 64 2 64 (from 9) → TellsScript all_set Json script_of_all)
-    × (TellsScript two_set Json script_of_two → ⊥)
+    → TellsScript (Classic two_set) Sealed script_of_two)
+    × (EstimatesItems 64 2 64 (from 9) → TellsScript (Classic all_set) Json script_of_all)
+    × (TellsScript (Classic two_set) Json script_of_two → ⊥)
 unfolding parts_script rate_script padded_integral digits char_count content count_on rounded_power
 tells-script = (
-  λ estimates. record {
-    items = from_to 1 2 (lit≤ tt);
-    estimates = estimates;
-    is = tells-classic_script.0;
-  },
-  λ estimates. record {
-    items = from 9;
-    estimates = estimates;
-    is = tells-classic_script.1.0;
-  },
+  λ estimates. record { items = from_to 1 2 (lit≤ tt); estimates = estimates; is = refl },
+  λ estimates. record { items = from 9; estimates = estimates; is = refl },
   λ told.
       let letter : ◌≡◌ {A = ℕ} 102 74 = ap (λ t. get_or t 26 0) told.is in
       absurd (omega (arith, letter)),
 )
 
-tells-blocked_script : blocked_script (line 5) Sealed
-    ≡ codes "{\"kind\":\"blocked\",\"form\":\"file, sealed\",\"bits\":512,\"hashes\":2,"
-    ++ codes "\"key\":\"00000000000000000000000000000000\",\"bits_set\":2}\n"
+tells-blocked_script : TellsScript (Blocked (line 5)) Sealed
+    (codes "{\"kind\":\"blocked\",\"form\":\"file, sealed\",\"bits\":512,\"hashes\":2,"
+    ++ codes "\"key\":\"00000000000000000000000000000000\",\"bits_set\":2}\n")
 unfolding parts_script padded_integral digits char_count content count_on
 tells-blocked_script = refl

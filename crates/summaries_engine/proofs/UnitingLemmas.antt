@@ -1,111 +1,114 @@
--- Filters that an iterator gives, united one after the other.
-use Rattle.std.proofs.Common.{◌≡◌, ℕ, ◌+◌, ◌-◌, ◌^◌, min, length, List, [], ◌∷◌, ◌++◌, map, Option, None, Some, Ok, refl, sym, ap, ◌∙◌}
-use Rattle.std.proofs.lemmas.List.{map-append}
-use Rattle.std.specs.Prelude.{Err, Result}
-use Rattle.std.specs.Iterator.{Yields}
-use Rattle.std.specs.Iterator.Runs.{WholeRun}
+-- Filters that lie under names, loaded and united one after the other.
+use Rattle.std.proofs.Common.{◌≡◌, ℕ, List, [], ◌∷◌, ◌++◌, get_or, inl, inr, sym, subst, ap}
 use Rattle.bloom_parts.specs.Content.{AreWords}
-use Rattle.summaries_engine.specs.declared.kinds.AnyFilter.{AnyFilter}
 use Rattle.fastbloom.specs.Fill.{AnyCuttingLaw, FilledContainsLaw}
 use Rattle.fastbloom.specs.Laws.{EqualContentLaw, EqualityLaw}
 use Rattle.fastbloom.specs.Lines.{LineSubsetLaw}
+use Rattle.summaries_engine.specs.declared.kinds.AnyFilter.{AnyFilter}
+use Rattle.summaries_engine.specs.declared.stop.Stop.{Stop}
 use Rattle.summaries_engine.specs.declared.unions.Difference.{Difference}
-use Rattle.summaries_engine.specs.declared.unions.Refusal.TheVariants.{Unread, Differs}
 use Rattle.summaries_engine.specs.Kinds.{UnitesParts, parts_of}
-use Rattle.summaries_engine.specs.Refusals.{DiffersBy, Fits, RefusesGiven}
-use Rattle.summaries_engine.specs.Summaries.{IsUnionOf, UnitesGiven}
+use Rattle.summaries_engine.specs.Named.{AreNamed, LoadedBefore, Named, StopsUniting, misfit_text}
+use Rattle.summaries_engine.specs.Refusals.{DiffersBy, Fits}
+use Rattle.summaries_engine.specs.Stops.{IsBad, Says}
+use Rattle.summaries_engine.specs.Summaries.{IsUnionOf, UnitesShards}
 use Rattle.summaries_engine.proofs.FilledLemmas.{Builder}
-use Rattle.summaries_engine.proofs.RefusalLemmas.{stops, misfit-differs, counted-more, union-fits}
-use Rattle.summaries_engine.proofs.ShardLemmas.{unites-shards, unites-whole}
+use Rattle.summaries_engine.proofs.RefusalLemmas.{misfit-differs, union-fits}
+use Rattle.summaries_engine.proofs.ShardLemmas.{unites-shards}
 use Rattle.summaries_engine.proofs.UnionLemmas.{union-first, union-next}
 
--- half-way: what was given are filters, which are united with the first and counted
-pub record IsUniting {E : Type 0} (first : AnyFilter) (given : List (Result AnyFilter E))
-    (whole : AnyFilter) (number : ℕ) : Type 0 where
-  pub others : List AnyFilter
-  pub all_read : given ≡ map Ok others
-  pub union : IsUnionOf (first ∷ others) whole
-  pub counted : number ≡ min (length others + 1) (2 ^ 64 - 1)
+-- one name and its filter more
+named-more : (has : Named) (names : List (List ℕ)) (name : List ℕ) (filters : List AnyFilter)
+    (f : AnyFilter) → AreNamed has names filters → has name f
+    → AreNamed has (names ++ name ∷ []) (filters ++ f ∷ [])
+named-more has [] name [] f are one = (one, tt)
+named-more has [] name (g ∷ filters) f are one = absurd are
+named-more has (other ∷ names) name [] f are one = absurd are
+named-more has (other ∷ names) name (g ∷ filters) f are one =
+    (are.0, named-more has names name filters f are.1 one)
 
--- before anything is given, the whole is the first
-pub uniting-none : {E : Type 0} (first : AnyFilter) → IsUniting {E = E} first [] first 1
-uniting-none first = record {
-  others = [];
-  all_read = refl;
-  union = union-first first;
-  counted = refl;
-}
+module _ (has : Named) (first : List ℕ) where
+  -- the filters of the first name and of some others are united
+  pub record IsUniting (others : List (List ℕ)) (whole : AnyFilter) : Type 0 where
+    pub filter : AnyFilter
+    pub filters : List AnyFilter
+    pub named : AreNamed has (first ∷ others) (filter ∷ filters)
+    pub union : IsUnionOf (filter ∷ filters) whole
 
-module _ {E : Type 0} {first : AnyFilter} {given : List (Result AnyFilter E)}
-    {whole : AnyFilter} {number : ℕ} (so_far : IsUniting first given whole number) where
-  -- the filters that were given, and an item behind them
-  came-behind : (item last : Result AnyFilter E) → item ≡ last
-      → given ++ item ∷ [] ≡ map Ok so_far.others ++ last ∷ []
-  came-behind item last is =
-      ap (λ l. l ++ item ∷ []) so_far.all_read ∙ ap (λ i. map Ok so_far.others ++ i ∷ []) is
+  -- the first alone
+  pub uniting-first : {f : AnyFilter} → has first f → IsUniting [] f
+  uniting-first {f} here =
+      record { filter = f; filters = []; named = (here, tt); union = union-first f }
 
-  -- one more filter is given and united
-  pub uniting-next : {item : Result AnyFilter E} {shard new : AnyFilter} {next : ℕ}
-      → item ≡ Ok shard → Fits whole shard → UnitesParts whole shard new
-      → next ≡ min (number + 1) (2 ^ 64 - 1)
-      → IsUniting first (given ++ item ∷ []) new next
-  uniting-next {item = item} {shard = shard} {new = new} {next = next} is fits unites counted =
-      let others = so_far.others in record {
-        others = others ++ shard ∷ [];
-        all_read = came-behind item (Ok shard) is ∙ sym (map-append Ok others (shard ∷ []));
-        union = union-next (first ∷ others) whole shard new so_far.union fits unites;
-        counted =
-            counted-more (2 ^ 64 - 1) number next others shard so_far.counted counted;
-      }
+  module _ {others : List (List ℕ)} {whole : AnyFilter} (so_far : IsUniting others whole) where
+    -- one more, which fits
+    pub uniting-next : (name : List ℕ) {shard new : AnyFilter} → has name shard → Fits whole shard
+        → UnitesParts whole shard new → IsUniting (others ++ name ∷ []) new
+    uniting-next name {shard = shard} {new = new} there fits unites =
+        let all = so_far.filter ∷ so_far.filters in record {
+          filter = so_far.filter;
+          filters = so_far.filters ++ shard ∷ [];
+          named = named-more has (first ∷ others) name all shard so_far.named there;
+          union = union-next all whole shard new so_far.union fits unites;
+        }
 
-  module _ {J : Type 0} (steps : J → Option (Result AnyFilter E) → J → Type 0)
-      {From : J → Type 0} (start : J) {last end : J} (begins : From start)
-      (came : Yields steps start given last) where
-    -- the iterator has ended, and the whole is the union of all that it gave
-    pub uniting-all : steps last None end → EqualityLaw Builder → EqualContentLaw Builder
-        → AnyCuttingLaw Builder → FilledContainsLaw Builder → LineSubsetLaw
-        → AreWords (parts_of whole).words
-        → (it : J) × From it × WholeRun steps it (λ run. UnitesGiven first run.items whole)
-    uniting-all ended equality contents cutting contains_all subset words = (
-      start,
-      begins,
-      unites-whole steps start last end first given whole came ended (record {
-        others = so_far.others;
-        all_read = so_far.all_read;
-        unites =
-            unites-shards first so_far.others whole equality contents cutting contains_all subset
-            words so_far.union;
-      }),
+    -- the union has all that is said of shards
+    pub uniting-all : {names : List (List ℕ)} → names ≡ first ∷ others → EqualityLaw Builder
+        → EqualContentLaw Builder → AnyCuttingLaw Builder → FilledContainsLaw Builder
+        → LineSubsetLaw → AreWords (parts_of whole).words → (filters : List AnyFilter)
+        × AreNamed has names filters × UnitesShards filters whole
+    uniting-all are equality contents cutting contains_all subset words = (
+      so_far.filter ∷ so_far.filters,
+      subst (λ l. AreNamed has l (so_far.filter ∷ so_far.filters)) (sym are) so_far.named,
+      unites-shards so_far.filter so_far.filters whole equality contents cutting contains_all
+          subset words so_far.union,
     )
 
-    -- the iterator gave an error instead of a filter
-    pub uniting-unread : {item : Result AnyFilter E} {error : E} → steps last (Some item) end
-        → item ≡ Err error → (it : J) × From it × RefusesGiven steps it first (Unread error)
-    uniting-unread {item = item} {error = error} next is = (
-      start,
-      begins,
-      stops steps start last end given item first (Unread error) came next (
-        so_far.others,
-        came-behind item (Err error) is,
-        union-fits first whole so_far.others so_far.union,
-      ),
-    )
+    module _ {names : List (List ℕ)} (name : List ℕ) (after : List (List ℕ))
+        (are : names ≡ first ∷ (others ++ name ∷ after)) where
+      -- the filters before a name were loaded
+      loaded-before : LoadedBefore has names (so_far.filter ∷ so_far.filters) name
+      loaded-before =
+          record { before = first ∷ others; after = after; are = are; loaded = so_far.named }
 
-    -- the iterator gave a filter that differs from the first
-    pub uniting-misfit : {item : Result AnyFilter E} {shard : AnyFilter}
-        {how : Difference} → steps last (Some item) end → item ≡ Ok shard
-        → DiffersBy whole shard how
-        → (it : J) × From it × RefusesGiven steps it first (Differs number how)
-    uniting-misfit {item = item} {shard = shard} {how = how} next is differs = (
-      start,
-      begins,
-      stops steps start last end given item first (Differs number how) came next (record {
-        others = so_far.others;
+      -- its filter couldn't be loaded
+      pub stops-unloaded : (fails : List ℕ → Stop → Type 0) {stop : Stop} → fails name stop
+          → StopsUniting has fails names stop
+      stops-unloaded fails failed = inr (inl (record {
+        filters = so_far.filter ∷ so_far.filters;
+        name = name;
+        reaches = loaded-before;
+        fit = union-fits so_far.filter whole so_far.filters so_far.union;
+        failed = failed;
+      }))
+
+      -- its filter differs from the first
+      pub stops-misfit : (fails : List ℕ → Stop → Type 0) {shard : AnyFilter} (how : Difference)
+          {stop : Stop} → has name shard → DiffersBy whole shard how
+          → IsBad (Says (misfit_text how name first)) stop → StopsUniting has fails names stop
+      stops-misfit fails {shard = shard} how {stop = stop} there differs says = inr (inr (record {
+        first = so_far.filter;
+        filters = so_far.filters;
+        name = name;
         shard = shard;
-        came = came-behind item (Ok shard) is;
-        fit = union-fits first whole so_far.others so_far.union;
+        how = how;
+        reaches = loaded-before;
+        fit = union-fits so_far.filter whole so_far.filters so_far.union;
+        loaded = there;
         differs =
-            misfit-differs first whole shard so_far.others how differs so_far.union;
-        counted = so_far.counted;
-      }),
-    )
+            misfit-differs so_far.filter whole shard so_far.filters how differs so_far.union;
+        says = subst (λ n. IsBad (Says (misfit_text how name n)) stop)
+            (sym (ap (λ l. get_or l 0 []) are)) says;
+      }))
+
+  -- the filter of the first name couldn't be loaded
+  pub stops-first : {names : List (List ℕ)} (others : List (List ℕ)) → names ≡ first ∷ others
+      → (fails : List ℕ → Stop → Type 0) {stop : Stop} → fails first stop
+      → StopsUniting has fails names stop
+  stops-first others are fails failed = inr (inl (record {
+    filters = [];
+    name = first;
+    reaches = record { before = []; after = others; are = are; loaded = tt };
+    fit = tt;
+    failed = failed;
+  }))

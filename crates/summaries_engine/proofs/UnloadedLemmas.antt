@@ -16,7 +16,7 @@ use Rattle.summaries_engine.specs.declared.stop.Stop.{Stop}
 use Rattle.summaries_engine.specs.declared.stop.Stop.TheVariants.{Memory, Input, Bad, Output}
 use Rattle.summaries_engine.specs.Kinds.{parts_of}
 use Rattle.summaries_engine.specs.Loaded.{HasHashesOf, IsInForm, IsRightIn, IsRightOf, IsRightWith, IsReportedOf, IsUnread, hashes_text, head_layout, mark_bytes}
-use Rattle.summaries_engine.specs.Stops.{IsBad, IsInputStop, IsMemory, IsUnreadAs}
+use Rattle.summaries_engine.specs.Stops.{IsBad, IsInputStop, IsMemory}
 use Rattle.summaries_engine.proofs.LoadedLemmas.{HasRead, layout-first, no-mark}
 
 -- memory and a failed read aren't said of what was read
@@ -28,56 +28,23 @@ elsewhere P (Bad said) (inl memory) bad = memory
 elsewhere P (Bad said) (inr input) bad = input
 elsewhere P (Output said) told bad = bad
 
--- nor is a failed read whose kind is known
-unread-elsewhere : (kind : ErrorKind) (name : List ℕ) (stop : Stop) → IsUnreadAs kind name stop
-    → IsBad (λ said. Unit {0}) stop → ⊥
-unread-elsewhere kind name Memory told bad = bad
-unread-elsewhere kind name (Input said) told bad = bad
-unread-elsewhere kind name (Bad said) told bad = told.other told.memory
-unread-elsewhere kind name (Output said) told bad = bad
+-- what is reported about a file's error is right
+reported-right : (layout : Layout) (bytes name : List ℕ) (error : FileError) (stop : Stop)
+    → IsReportedOf name error stop → IsReadIn layout bytes (Some error)
+    → IsRightIn layout bytes name stop
+reported-right layout bytes name error Memory told read = inl (λ bad. bad)
+reported-right layout bytes name error (Input said) told read = inl (λ bad. bad)
+reported-right layout bytes name error (Output said) told read = inl (λ bad. bad)
+reported-right layout bytes name error (Bad said) told read =
+    inr ((error, refused read), told.other told.memory input)
+  where
+    input : (kind : ErrorKind) → error ≡ file_error.Input kind → ⊥
+    input kind is = let unread = told.input kind is in unread.other unread.memory
 
--- an error that is neither memory nor a failed read is the refusal of the bytes
-refusal-of : (layout : Layout) (bytes : List ℕ) (error : FileError)
-    → (error ≡ file_error.Memory → ⊥) → ((kind : ErrorKind) → error ≡ file_error.Input kind → ⊥)
-    → IsReadIn layout bytes (Some error) → refusal_in layout bytes ≡ Some error
-refusal-of layout bytes error memory input (inl is) = sym is
-refusal-of layout bytes error memory input (inr (inl is)) =
-    let same : error ≡ file_error.Memory = cc (is.0) in absurd (memory same)
-refusal-of layout bytes error memory input (inr (inr is)) =
-    let same : error ≡ file_error.Input is.0 = cc (is.1) in absurd (input is.0 same)
-
-module _ (layout : Layout) (bytes name : List ℕ) where
-  -- what is reported about a file's error is right
-  reported-right : (error : FileError) (stop : Stop) → IsReportedOf name error stop
-      → IsReadIn layout bytes (Some error) → IsRightIn layout bytes name stop
-  reported-right file_error.NotAFilter stop told read =
-      inr ((_, refusal-of layout bytes _ (λ is. cc) (λ kind is. cc) read), told)
-  reported-right file_error.Version stop told read =
-      inr ((_, refusal-of layout bytes _ (λ is. cc) (λ kind is. cc) read), told)
-  reported-right file_error.HashCount stop told read =
-      inr ((_, refusal-of layout bytes _ (λ is. cc) (λ kind is. cc) read), told)
-  reported-right file_error.EmptyWords stop told read =
-      inr ((_, refusal-of layout bytes _ (λ is. cc) (λ kind is. cc) read), told)
-  reported-right file_error.TooManyWords stop told read =
-      inr ((_, refusal-of layout bytes _ (λ is. cc) (λ kind is. cc) read), told)
-  reported-right file_error.Cut stop told read =
-      inr ((_, refusal-of layout bytes _ (λ is. cc) (λ kind is. cc) read), told)
-  reported-right file_error.TooLong stop told read =
-      inr ((_, refusal-of layout bytes _ (λ is. cc) (λ kind is. cc) read), told)
-  reported-right file_error.Reserved stop told read =
-      inr ((_, refusal-of layout bytes _ (λ is. cc) (λ kind is. cc) read), told)
-  reported-right file_error.Blocked stop told read =
-      inr ((_, refusal-of layout bytes _ (λ is. cc) (λ kind is. cc) read), told)
-  reported-right file_error.NotBlocked stop told read =
-      inr ((_, refusal-of layout bytes _ (λ is. cc) (λ kind is. cc) read), told)
-  reported-right file_error.PartOfALine stop told read =
-      inr ((_, refusal-of layout bytes _ (λ is. cc) (λ kind is. cc) read), told)
-  reported-right file_error.Seal stop told read =
-      inr ((_, refusal-of layout bytes _ (λ is. cc) (λ kind is. cc) read), told)
-  reported-right file_error.Memory stop told read =
-      inl (elsewhere (λ said. Unit {0}) stop (inl told))
-  reported-right (file_error.Input kind) stop told read =
-      inl (unread-elsewhere kind name stop told)
+    refused : IsReadIn layout bytes (Some error) → refusal_in layout bytes ≡ Some error
+    refused (inl is) = sym is
+    refused (inr (inl is)) = absurd (told.memory (cc (is.0)))
+    refused (inr (inr is)) = absurd (input is.0 (cc (is.1)))
 
 -- what is reported about a file's error is right, where its first bytes were read before
 pub file-right : (layout : Layout) (start name : List ℕ) (rest known : Option (List ℕ))

@@ -119,14 +119,14 @@ pub taking-batch : {F : Type 0} {took : F → List ℕ → F → Type 0} {key : 
     {read left : Option (List ℕ)} {old : Waiting} {number : ℕ} {from now later : F}
     {waited waits more : List ℕ}
     → IsTaking took key end read old left number from now waited waits → (new : Waiting) (n : ℕ)
-    (hashes : List ℕ) → HashesFirst key.0 key.1 end old.bytes new.bytes hashes
-    → n ≡ length hashes
-    → ((first : F) (before : List ℕ) → HasTaken took first now waits before
+    → (hashes : List ℕ) × HashesFirst key.0 key.1 end old.bytes new.bytes hashes
+    × (n ≡ length hashes)
+    × ((first : F) (before : List ℕ) → HasTaken took first now waits before
     → HasTaken took first later more (before ++ hashes))
     → new.ended ≡ old.ended → new.longest ≡ old.longest
     → IsTaking took key end read new left (number + n) from later waited more
 taking-batch {took = took} {key = key} {end = end} {read = read} {left = left} {old = old}
-    {later = later} {more = more} so_far new n hashes batch counted step ended longest =
+    {later = later} {more = more} so_far new n (hashes, batch, counted, step) ended longest =
     let keys = so_far.keys in
     let hash = sip key.0 key.1 in record {
       keys = keys ++ batch.keys;

@@ -11,6 +11,8 @@ use Rattle.fastbloom.specs.Filter.{num_bits_of}
 use Rattle.fastbloom.specs.Ones.{ones_of}
 use Rattle.summaries_engine.specs.declared.form.Form.{Form}
 use Rattle.summaries_engine.specs.declared.form.Form.TheVariants.{Sealed, Unsealed, Json}
+use Rattle.summaries_engine.specs.declared.kinds.AnyFilter.{AnyFilter}
+use Rattle.summaries_engine.specs.declared.kinds.AnyFilter.TheVariants.{Classic, Blocked}
 
 -- what a form is called
 abbrev pub form_text : Form → List ℕ
@@ -53,6 +55,15 @@ billionths_text part =
     decimal (part / 10 ^ 9) ++ (codes "."
     ++ styled_decimal (format_spec 32 0 4 9 (2 ^ 64 - 1)) (part % 10 ^ 9))
 
+-- the lines of a filter in a form
+unfoldable pub lines_text : DefaultFilter → Form → List ℕ
+lines_text f form =
+    codes "form: " ++ (form_text form
+    ++ (codes "\nbits: " ++ (decimal (num_bits_of f)
+    ++ (codes "\nhashes: " ++ (decimal f.hashes
+    ++ (codes "\n" ++ (key_text (key_of f.hasher).0 (key_of f.hasher).1
+    ++ set_text (ones_of f) (share_of (ones_of f) (num_bits_of f)))))))))
+
 -- the line of a rate of false positives, by two bounds in units of 2^-63: the lower one is rounded
 -- down to billionths, and the upper one up, so that the rate lies between what is reported
 abbrev pub rate_text : ℕ → ℕ → List ℕ
@@ -66,31 +77,20 @@ rate_of_text f =
     rate_text (positives_low (num_bits_of f) f.hashes (ones_of f))
     (positives_high (num_bits_of f) f.hashes (ones_of f))
 
--- the lines of a filter in a form, up to an estimate of its items
-unfoldable pub lines_text : DefaultFilter → Form → Estimate → List ℕ
-lines_text f form items =
-    codes "form: " ++ (form_text form
-    ++ (codes "\nbits: " ++ (decimal (num_bits_of f)
-    ++ (codes "\nhashes: " ++ (decimal f.hashes
-    ++ (codes "\n" ++ (key_text (key_of f.hasher).0 (key_of f.hasher).1
-    ++ (set_text (ones_of f) (share_of (ones_of f) (num_bits_of f))
-    ++ (codes "items: " ++ (items_text items ++ codes "\n"))))))))))
+-- the lines of a Bloom filter besides: an estimate of its items, and its rate as it is
+unfoldable pub estimates_text : DefaultFilter → Estimate → List ℕ
+estimates_text f items =
+    codes "items: " ++ (items_text items ++ (codes "\n" ++ rate_of_text f))
 
--- the lines that tell a filter in a form, with an estimate of its items
-abbrev pub facts_text : DefaultFilter → Form → Estimate → List ℕ
-facts_text f form items = lines_text f form items ++ rate_of_text f
+-- a text tells a Bloom filter by an estimate of its items
+pub record TellsItems (f : DefaultFilter) (text_of : Estimate → List ℕ) (text : List ℕ) : Type 0
+  where
+    pub items : Estimate
+    pub estimates : EstimatesItems (num_bits_of f) f.hashes (ones_of f) items
+    pub is : text ≡ text_of items
 
--- the lines of a blocked filter in a form. The estimates of a Bloom filter aren't true of lines
-abbrev pub blocked_text : DefaultFilter → Form → List ℕ
-blocked_text f form =
-    codes "kind: blocked\nform: " ++ (form_text form
-    ++ (codes "\nbits: " ++ (decimal (num_bits_of f)
-    ++ (codes "\nhashes: " ++ (decimal f.hashes
-    ++ (codes "\n" ++ (key_text (key_of f.hasher).0 (key_of f.hasher).1
-    ++ set_text (ones_of f) (share_of (ones_of f) (num_bits_of f)))))))))
-
--- a text tells a filter in a form, with an estimate of its items
-pub record TellsFilter (f : DefaultFilter) (form : Form) (text : List ℕ) : Type 0 where
-  pub items : Estimate
-  pub estimates : EstimatesItems (num_bits_of f) f.hashes (ones_of f) items
-  pub is : text ≡ facts_text f form items
+-- a text tells a filter in a form. The estimates of a Bloom filter aren't true of a blocked one
+abbrev pub TellsFilter : AnyFilter → Form → List ℕ → Type 0
+TellsFilter (Classic f) form text =
+    TellsItems f (λ items. lines_text f form ++ estimates_text f items) text
+TellsFilter (Blocked f) form text = text ≡ codes "kind: blocked\n" ++ lines_text f form

@@ -55,10 +55,11 @@ IsUnread name stop = IsMemory stop
     ⊎ SaysNone name stop
 
 -- what is reported where a file isn't read for this error
-abbrev pub IsReportedOf : List ℕ → FileError → Stop → Type 0
-IsReportedOf name file_error.Memory stop = IsMemory stop
-IsReportedOf name (file_error.Input kind) stop = IsUnreadAs kind name stop
-IsReportedOf name _ stop = SaysNone name stop
+pub record IsReportedOf (name : List ℕ) (error : FileError) (stop : Stop) : Type 0 where
+  pub memory : error ≡ file_error.Memory → IsMemory stop
+  pub input : (kind : ErrorKind) → error ≡ file_error.Input kind → IsUnreadAs kind name stop
+  pub other : error ≢ file_error.Memory → ((kind : ErrorKind) → error ≢ file_error.Input kind)
+      → SaysNone name stop
 
 -- what is reported where no text is read for an error of this kind: bytes that aren't UTF-8 are no
 -- filter

@@ -1,5 +1,5 @@
--- Filters that have names, and what an iterator over names gives. A name is its list of bytes.
-use Rattle.std.specs.Prelude.{◌≡◌, ◌⊎◌, ℕ, codes, List, [], ◌∷◌, ◌++◌, get_or, All, Option, Result, MatchOption, MatchResult, ⊤}
+-- Filters that have names, and why they aren't united. A name is its list of bytes.
+use Rattle.std.specs.Prelude.{◌≡◌, ◌⊎◌, ℕ, codes, List, [], ◌∷◌, ◌++◌, get_or, All, ⊤}
 use Rattle.summaries_engine.specs.declared.kinds.AnyFilter.{AnyFilter}
 use Rattle.summaries_engine.specs.declared.stop.Stop.{Stop}
 use Rattle.summaries_engine.specs.declared.unions.Difference.{Difference}
@@ -18,15 +18,6 @@ AreNamed has [] (f ∷ filters) = ⊥
 AreNamed has (name ∷ names) [] = ⊥
 AreNamed has (name ∷ names) (f ∷ filters) = has name f × AreNamed has names filters
 
--- a call gave the filter of the first name that was left, or its error, and left the other names;
--- or the call gave nothing, where no name was left
-abbrev pub GivesNext : {I S E : Type 0} → (S → Named) → (S → List ℕ → E → Type 0) → (I → S)
-    → (I → List (List ℕ)) → I → Option (Result AnyFilter E) → I → Type 0
-GivesNext has fails shelf names from given to = (shelf to ≡ shelf from)
-    × MatchOption given ((names from ≡ []) × (names to ≡ []))
-    (λ read. (name : List ℕ) × (names from ≡ name ∷ names to)
-    × MatchResult read (has (shelf from) name) (fails (shelf from) name))
-
 -- these filters lie under the names before this one
 pub record LoadedBefore (has : Named) (names : List (List ℕ)) (filters : List AnyFilter)
     (name : List ℕ) : Type 0 where
@@ -40,14 +31,14 @@ abbrev pub FitFirst : List AnyFilter → Type 0
 FitFirst [] = ⊤
 FitFirst (first ∷ others) = All (Fits first) others
 
--- filters that fit the first lie under the names before one, and that one's error is said
-pub record StopsUnloaded {E : Type 0} (has : Named) (fails : List ℕ → E → Type 0)
-    (names : List (List ℕ)) (said : E) : Type 0 where
+-- filters that fit the first lie under the names before one, which fails
+pub record StopsUnloaded (has : Named) (fails : List ℕ → Stop → Type 0)
+    (names : List (List ℕ)) (stop : Stop) : Type 0 where
   pub filters : List AnyFilter
   pub name : List ℕ
   pub reaches : LoadedBefore has names filters name
   pub fit : FitFirst filters
-  pub failed : fails name said
+  pub failed : fails name stop
 
 -- what is said of a filter that differs from the first, by both names
 abbrev pub misfit_text : Difference → List ℕ → List ℕ → List ℕ

@@ -2,7 +2,7 @@
 -- project's own.
 use Rattle.std.specs.Prelude.{◌≡◌, ℕ, ◌*◌, ◌/◌, ◌^◌, codes, decimal, List, ◌++◌, Option, None, Some}
 use Rattle.std.specs.Int.{div_ceil}
-use Rattle.bloom_parts.specs.Estimates.{EstimatesItems, least_of, most_of}
+use Rattle.bloom_parts.specs.Estimates.{least_of, most_of}
 use Rattle.bloom_parts.specs.FalsePositives.{positives_low, positives_high}
 use Rattle.bloom_parts.specs.Keys.{key_of}
 use Rattle.bloom_parts.specs.declared.math.estimate.Estimate.{Estimate}
@@ -10,7 +10,9 @@ use Rattle.fastbloom.specs.Data.{DefaultFilter}
 use Rattle.fastbloom.specs.Filter.{num_bits_of}
 use Rattle.fastbloom.specs.Ones.{ones_of}
 use Rattle.summaries_engine.specs.declared.form.Form.{Form}
-use Rattle.summaries_engine.specs.Facts.{billionths_text, bytes_text, form_text}
+use Rattle.summaries_engine.specs.declared.kinds.AnyFilter.{AnyFilter}
+use Rattle.summaries_engine.specs.declared.kinds.AnyFilter.TheVariants.{Classic, Blocked}
+use Rattle.summaries_engine.specs.Facts.{TellsItems, billionths_text, bytes_text, form_text}
 
 -- the members of any filter: its form, what it is made of, and how many bits are set
 unfoldable pub parts_script : DefaultFilter → Form → List ℕ
@@ -42,18 +44,10 @@ rate_script f =
     ++ billionths_text
     (div_ceil (positives_high (num_bits_of f) f.hashes (ones_of f) * 10 ^ 9) (2 ^ 63))))
 
--- the line of a Bloom filter in a form, with an estimate of its items
-abbrev pub classic_script : DefaultFilter → Form → Estimate → List ℕ
-classic_script f form items =
-    codes "{\"kind\":\"classic\"," ++ (parts_script f form
-    ++ (items_script items ++ (rate_script f ++ codes "}\n")))
-
--- the line of a blocked filter in a form
-abbrev pub blocked_script : DefaultFilter → Form → List ℕ
-blocked_script f form = codes "{\"kind\":\"blocked\"," ++ (parts_script f form ++ codes "}\n")
-
--- a line tells a Bloom filter in a form, with an estimate of its items
-pub record TellsScript (f : DefaultFilter) (form : Form) (text : List ℕ) : Type 0 where
-  pub items : Estimate
-  pub estimates : EstimatesItems (num_bits_of f) f.hashes (ones_of f) items
-  pub is : text ≡ classic_script f form items
+-- a line tells a filter in a form, of a Bloom filter with an estimate of its items
+abbrev pub TellsScript : AnyFilter → Form → List ℕ → Type 0
+TellsScript (Classic f) form text =
+    TellsItems f (λ items. codes "{\"kind\":\"classic\"," ++ (parts_script f form
+    ++ ((items_script items ++ rate_script f) ++ codes "}\n"))) text
+TellsScript (Blocked f) form text =
+    text ≡ codes "{\"kind\":\"blocked\"," ++ (parts_script f form ++ codes "}\n")

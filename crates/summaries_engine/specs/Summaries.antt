@@ -1,6 +1,6 @@
 -- What a filter is to keys, and united filters to the keys of all. A key is a list of bytes, whose
 -- hash is SipHash-1-3 under the filter's own key. That is this project's own.
-use Rattle.std.specs.Prelude.{◌≡◌, ◌↔◌, ℕ, ◌*◌, ◌/◌, Bool, true, List, [], ◌∷◌, length, map, flat_map, All, Ok, Result, ⊤}
+use Rattle.std.specs.Prelude.{◌≡◌, ◌↔◌, ℕ, ◌*◌, ◌/◌, Bool, true, List, [], ◌∷◌, length, map, flat_map, All, ⊤}
 use Rattle.std.specs.List.{list_any, Contains}
 use Rattle.bloom_parts.specs.Content.{content, AreWords}
 use Rattle.bloom_parts.specs.Keys.{key_of}
@@ -80,10 +80,3 @@ pub record UnitesShards (filters : List AnyFilter) (made : AnyFilter) : Type 0 w
   pub found : (shape : Shape) (parts : List (List (List ℕ))) (key : List ℕ)
       → AreSummariesOf shape parts filters → Contains (joined parts) key
       → has_hash made (hash_in made key) ≡ true
-
--- each of these was given and is a filter, and with the first they make the union
-pub record UnitesGiven {E : Type 0} (first : AnyFilter) (given : List (Result AnyFilter E))
-    (made : AnyFilter) : Type 0 where
-  pub others : List AnyFilter
-  pub all_read : given ≡ map Ok others
-  pub unites : UnitesShards (first ∷ others) made

@@ -9,7 +9,6 @@ ghost use Rattle.summaries_engine.specs.Crews.{HoldMore, HoldTogether, InsertPar
 ghost use Rattle.summaries_engine.specs.Sizes.{IsEmpty};
 
 use crate::filler::Filler;
-use crate::stop::Stop;
 use fastbloom::{BloomFilter, FilterError};
 use std::alloc::Global;
 use std::thread::{Threads, for_each_mut};
@@ -98,15 +97,12 @@ impl<'a, R: Threads + Sync> Filler for Crew<'a, R> {
 
     ghost took = { λ old hashes new. HoldMore old.filters.items hashes new.filters.items };
 
-    ghost refuses = { λ _. ⊥ };
-
     fn most(&self) -> usize {
         EACH.saturating_mul(self.filters.len())
     }
 
-    fn take(&mut self, hashes: &[u64]) -> Result<(), Stop> {
+    fn take(&mut self, hashes: &[u64]) {
         self.insert(hashes);
-        Ok(())
     }
 
     ghost none = { λ crew. holds-none crew.filters.items };

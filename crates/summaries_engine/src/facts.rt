@@ -1,10 +1,12 @@
 //! What is reported about a filter.
 ghost use Rattle.std.specs.Prelude.{◌≡◌, ◌≤◌, ◌<◌, ◌*◌, ◌/◌, ◌^◌, IfOk, string_bytes};
 ghost use Rattle.std.specs.Int.{div_ceil};
-ghost use Rattle.summaries_engine.specs.Facts.{TellsFilter, billionths_text, blocked_text, facts_text, form_text, items_text, key_text, lines_text, rate_of_text, set_text, share_of};
+ghost use Rattle.summaries_engine.specs.Facts.{TellsFilter, billionths_text, estimates_text, form_text, items_text, key_text, lines_text, rate_of_text, set_text, share_of};
+ghost use Rattle.summaries_engine.specs.Kinds.{parts_of};
 
 use crate::form::Form;
-use fastbloom::{BlockedBloomFilter, BloomFilter, Estimate};
+use crate::kinds::AnyFilter;
+use fastbloom::{BloomFilter, Estimate};
 use std::alloc::{AllocError, Global};
 
 /// What a form is called.
@@ -84,6 +86,20 @@ pub(crate) fn fraction_of(alloc: Global, billionths: u64) -> Result<String, Allo
     format!(in alloc; "{whole}.{part:09}")
 }
 
+// The lines that tell a filter of either kind.
+#[tactic(auto, unfolding(crate::specs::Facts::lines_text))]
+fn lines_of(alloc: Global, filter: &AnyFilter, form: Form) -> Result<String, AllocError>
+    ensures { IfOk result (λ text. string_bytes text ≡ lines_text (parts_of filter.now) form) }
+{
+    let (bits, hashes) = (filter.num_bits(), filter.num_hashes());
+    let (k0, k1) = filter.hasher().key();
+    let key = key_line(alloc, k0, k1)?;
+    let ones = filter.count_ones();
+    let set = set_line(alloc, ones, share(ones, bits))?;
+    let name = name_of(form);
+    format!(in alloc; "form: {name}\nbits: {bits}\nhashes: {hashes}\n{key}{set}")
+}
+
 // The line of a filter's rate of false positives as it is.
 #[tactic(auto, unfolding(crate::specs::Facts::rate_of_text))]
 fn rate_line(alloc: Global, filter: &BloomFilter) -> Result<String, AllocError>
@@ -95,70 +111,31 @@ fn rate_line(alloc: Global, filter: &BloomFilter) -> Result<String, AllocError>
     format!(in alloc; "false positive rate: {low} to {high}\n")
 }
 
-// The lines that tell a filter, up to the bounds of its items.
-#[tactic(auto, unfolding(crate::specs::Facts::lines_text))]
-fn lines_of(
-    alloc: Global,
-    filter: &BloomFilter,
-    form: Form,
-    items: Estimate,
-) -> Result<String, AllocError>
-    ensures { IfOk result (λ text. string_bytes text ≡ lines_text filter.now form items) }
+// The lines that tell a Bloom filter besides: the bounds of its items, and of its rate as it is.
+#[tactic(auto, unfolding(crate::specs::Facts::estimates_text))]
+fn estimates_of(alloc: Global, filter: &BloomFilter, items: Estimate) -> Result<String, AllocError>
+    ensures { IfOk result (λ text. string_bytes text ≡ estimates_text filter.now items) }
 {
-    let (bits, hashes) = (filter.num_bits(), filter.num_hashes());
-    let (k0, k1) = filter.hasher().key();
-    let key = key_line(alloc, k0, k1)?;
-    let ones = filter.count_ones();
-    let set = set_line(alloc, ones, share(ones, bits))?;
-    let items = items_of(alloc, items)?;
-    let name = name_of(form);
-    format!(in alloc; "form: {name}\nbits: {bits}\nhashes: {hashes}\n{key}{set}items: {items}\n")
+    let (items, rate) = (items_of(alloc, items)?, rate_line(alloc, filter)?);
+    format!(in alloc; "items: {items}\n{rate}")
 }
 
-// The lines that tell a filter, with the bounds of its items and of its rate.
-fn all_lines_of(
-    alloc: Global,
-    filter: &BloomFilter,
-    form: Form,
-    items: Estimate,
-) -> Result<String, AllocError>
-    ensures { IfOk result (λ text. string_bytes text ≡ facts_text filter.now form items) }
-{
-    let lines = lines_of(alloc, filter, form, items)?;
-    let rate = rate_line(alloc, filter)?;
-    format!(in alloc; "{lines}{rate}")
-}
-
-/// Lines that tell a Bloom filter's form, its numbers of bits and of hashes, the sixteen bytes of
-/// its key, how many bits are set, with their share in percent, and the bounds of its items and of
-/// its rate of false positives as it is.
+/// Lines that tell a filter's form, its numbers of bits and of hashes, the sixteen bytes of its
+/// key, and how many bits are set, with their share in percent; of a Bloom filter also the bounds
+/// of its items and of its rate of false positives as it is. These estimates aren't true of a
+/// blocked filter, of which the lines tell the kind.
 ///
 /// # Errors
 /// Out of memory.
-pub fn facts_of(alloc: Global, filter: &BloomFilter, form: Form) -> Result<String, AllocError>
+pub fn facts_of(alloc: Global, filter: &AnyFilter, form: Form) -> Result<String, AllocError>
     ensures { IfOk result (λ text. TellsFilter filter.now form (string_bytes text)) }
 {
-    all_lines_of(alloc, filter, form, filter.estimated_items())
-}
-
-/// Lines that tell that a filter is blocked, its form, its numbers of bits and of hashes, the
-/// sixteen bytes of its key, and how many bits are set, with their share in percent. The estimates
-/// of a Bloom filter aren't true of it.
-///
-/// # Errors
-/// Out of memory.
-pub fn blocked_facts_of(
-    alloc: Global,
-    filter: &BlockedBloomFilter,
-    form: Form,
-) -> Result<String, AllocError>
-    ensures { IfOk result (λ text. string_bytes text ≡ blocked_text filter.now form) }
-{
-    let (bits, hashes) = (filter.num_bits(), filter.num_hashes());
-    let (low, high) = filter.hasher().key();
-    let key = key_line(alloc, low, high)?;
-    let count = filter.count_ones();
-    let set = set_line(alloc, count, share(count, bits))?;
-    let name = name_of(form);
-    format!(in alloc; "kind: blocked\nform: {name}\nbits: {bits}\nhashes: {hashes}\n{key}{set}")
+    let lines = lines_of(alloc, filter, form)?;
+    match filter {
+        AnyFilter::Classic(filter) => {
+            let estimates = estimates_of(alloc, filter, filter.estimated_items())?;
+            format!(in alloc; "{lines}{estimates}")
+        }
+        AnyFilter::Blocked(_) => format!(in alloc; "kind: blocked\n{lines}"),
+    }
 }

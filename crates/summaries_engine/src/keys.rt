@@ -1,5 +1,5 @@
 //! Keys: the lines of inputs, without their ends.
-ghost use Rattle.std.specs.Prelude.{◌≡◌, ◌⊎◌, ◌≤◌, ℕ, codes, List, [], ◌∷◌, ◌++◌, length, map, IfErr, IfOk, OnOk};
+ghost use Rattle.std.specs.Prelude.{◌≡◌, ◌≤◌, ℕ, codes, List, [], ◌∷◌, ◌++◌, length, map, IfErr, IfOk, OnOk};
 ghost use Rattle.std.specs.IoError.{error_kind};
 ghost use Rattle.bloom_parts.specs.Keys.{HasKey};
 ghost use Rattle.bloom_parts.specs.Sip.{sip};
@@ -63,18 +63,16 @@ pub fn too_many(name: &str) -> Stop
 }
 
 // Gives the hashes that wait to what takes them.
-fn give<F: Filler>(filler: &mut F, waiting: &mut Vec<u64>) -> Result<(), Stop>
+fn give<F: Filler>(filler: &mut F, waiting: &mut Vec<u64>)
     requires { F.ready filler.old }
-    ensures ready { OnOk result (F.ready filler.new) }
-    ensures none { OnOk result (waiting.new.items ≡ []) }
-    ensures taken { OnOk result ((first : F) (hashes : List ℕ)
+    ensures ready { F.ready filler.new }
+    ensures none { waiting.new.items ≡ [] }
+    ensures taken { (first : F) (hashes : List ℕ)
         → HasTaken F.took first filler.old waiting.old.items hashes
-        → HasTaken F.took first filler.new [] hashes) }
-    ensures refused { IfErr result F.refuses }
+        → HasTaken F.took first filler.new [] hashes }
 {
-    filler.take(waiting.as_slice())?;
+    filler.take(waiting.as_slice());
     waiting.clear();
-    Ok(())
 }
 
 // Puts hashes behind those that wait, and gives them where as many wait as are given at once.
@@ -88,15 +86,15 @@ fn take_hashes<F: Filler>(
     ensures taken { OnOk result ((first : F) (before : List ℕ)
         → HasTaken F.took first filler.old waiting.old.items before
         → HasTaken F.took first filler.new waiting.new.items (before ++ hashes.now)) }
-    ensures refused { IfErr result (λ stop. IsMemory stop ⊎ F.refuses stop) }
+    ensures refused { IfErr result IsMemory }
 {
     let Ok(()) = waiting.extend_from_slice(hashes) else {
         return Err(Stop::Memory);
     };
-    if waiting.len() < filler.most() {
-        return Ok(());
+    if waiting.len() >= filler.most() {
+        give(filler, waiting);
     }
-    give(filler, waiting)
+    Ok(())
 }
 
 // Takes the hashes of the keys that wait whole, of at most this many keys. Returns their number.
@@ -118,7 +116,7 @@ fn take_waiting<const END: u8, F: Filler>(
         → HasTaken F.took first filler.new waiting.new.items (before ++ hashes))) }
     ensures ended { lines.new.ended ≡ lines.old.ended }
     ensures longest { lines.new.longest ≡ lines.old.longest }
-    ensures refused { IfErr result (λ stop. IsMemory stop ⊎ F.refuses stop) }
+    ensures refused { IfErr result IsMemory }
 {
     let mut hashes = [0u64; TOGETHER];
     let room = most.min(256) as usize;
@@ -147,8 +145,7 @@ fn take_keys<const END: u8, F: Filler, I: Read>(
         × HashesAll key END (I.remaining input.old) (I.remaining input.new) hashes more
         × HasTaken F.took first filler.new waiting.new.items more) }
     // Why not all were taken.
-    ensures stops { IfErr result (λ stop.
-        StopsHashing END name.now (I.remaining input.old) stop ⊎ F.refuses stop) }
+    ensures stops { IfErr result (StopsHashing END name.now (I.remaining input.old)) }
 {
     let builder = DefaultHasher::keyed(key.0, key.1);
     let Ok(mut lines) = LineReaderBy::<END>::new(alloc, LONGEST) else {
@@ -170,41 +167,12 @@ fn take_keys<const END: u8, F: Filler, I: Read>(
     Err(too_many(name))
 }
 
-/// Gives the hashes, under a key, of all keys of the inputs of these names to what takes them, as
+/// What is empty, filled with the hashes, under a key, of all keys of the inputs of these names, as
 /// they are read. The byte `END` ends a key, and so does the end of an input.
 ///
 /// # Errors
-/// At the first input that can't be had or read, or has a key that is too long, out of memory, and
-/// where the hashes aren't taken.
-pub fn take_inputs<const END: u8, F: Filler, S: Inputs>(
-    alloc: Global,
-    key: (u64, u64),
-    inputs: &S,
-    names: &[&str],
-    filler: &mut F,
-) -> Result<(), Stop>
-    requires { F.ready filler.old }
-    ensures all { OnOk result ((hashes : List ℕ)
-        × HashesInputs (S.has inputs.now) key END (map (λ name. name.now) names.now) hashes
-        × F.took filler.old hashes filler.new) }
-    // Why not all were taken.
-    ensures stops { IfErr result (λ stop. StopsHashes (S.has inputs.now) (S.fails inputs.now) END
-        (map (λ name. name.now) names.now) stop ⊎ F.refuses stop) }
-{
-    let mut waiting = Vec::new(alloc);
-    'names: for name in names {
-        let mut input = inputs.open(name)?;
-        take_keys::<END, F, S::Input>(alloc, key, name, &mut input, filler, &mut waiting)?;
-    }
-    give(filler, &mut waiting)
-}
-
-/// What is empty, filled with all keys of the inputs of these names. The byte `END` ends a key, and
-/// so does the end of an input.
-///
-/// # Errors
-/// As `take_inputs`.
-pub fn filled_from<const END: u8, F: Filler + Drop, S: Inputs>(
+/// At the first input that can't be had or read, or has a key that is too long, and out of memory.
+pub(crate) fn filled_from<const END: u8, F: Filler + Drop, S: Inputs>(
     alloc: Global,
     key: (u64, u64),
     empty: F,
@@ -215,10 +183,16 @@ pub fn filled_from<const END: u8, F: Filler + Drop, S: Inputs>(
     ensures all { IfOk result (λ filled. (hashes : List ℕ)
         × HashesInputs (S.has inputs.now) key END (map (λ name. name.now) names.now) hashes
         × F.took empty hashes filled) }
-    ensures stops { IfErr result (λ stop. StopsHashes (S.has inputs.now) (S.fails inputs.now) END
-        (map (λ name. name.now) names.now) stop ⊎ F.refuses stop) }
+    // Why not all were taken.
+    ensures stops { IfErr result (StopsHashes (S.has inputs.now) (S.fails inputs.now) END
+        (map (λ name. name.now) names.now)) }
 {
     let mut filler = empty;
-    take_inputs::<END, F, S>(alloc, key, inputs, names, &mut filler)?;
+    let mut waiting = Vec::new(alloc);
+    'names: for name in names {
+        let mut input = inputs.open(name)?;
+        take_keys::<END, F, S::Input>(alloc, key, name, &mut input, &mut filler, &mut waiting)?;
+    }
+    give(&mut filler, &mut waiting);
     Ok(filler)
 }

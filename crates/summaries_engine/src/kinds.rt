@@ -1,10 +1,14 @@
 //! Filters of either kind: Bloom filters, and blocked ones.
-ghost use Rattle.std.specs.Prelude.{◌≡◌, ◌≤◌, ◌*◌, ◌↔◌, IsTrue, length, OnErr, OnOk};
+ghost use Rattle.std.specs.Prelude.{◌≡◌, ◌≤◌, ◌*◌, ◌^◌, ◌<◌, ◌↔◌, IsTrue, length, OnErr, OnOk};
 ghost use Rattle.std.specs.Io.KnownBytes.{Appends};
 ghost use Rattle.bloom_parts.specs.Content.{AreWords};
 ghost use Rattle.lines.specs.Writing.{AppendsPart};
+ghost use Rattle.fastbloom.specs.Filter.{num_bits_of};
+ghost use Rattle.fastbloom.specs.Ones.{ones_of};
+ghost use Rattle.summaries_engine.specs.Fillers.{FillsMore};
 ghost use Rattle.summaries_engine.specs.Kinds.{HaveSameKind, HaveOneShape, TellsEach, UnitesParts, file_of_kind, has_hash, parts_of};
 
+use fastbloom::laws::fill_equals_one_filter;
 use fastbloom::{BlockedBloomFilter, BloomFilter, DefaultHasher, FilterFile};
 use std::io;
 use std::io::Write;
@@ -27,6 +31,28 @@ impl AnyFilter {
         match self {
             AnyFilter::Classic(filter) => filter.num_hashes(),
             AnyFilter::Blocked(filter) => filter.num_hashes(),
+        }
+    }
+
+    /// The number of bits.
+    pub(crate) fn num_bits(&self) -> usize
+        ensures value { result ≡ num_bits_of (parts_of self.now) }
+        ensures some { 0 < result }
+    {
+        match self {
+            AnyFilter::Classic(filter) => filter.num_bits(),
+            AnyFilter::Blocked(filter) => filter.num_bits(),
+        }
+    }
+
+    /// How many bits are set.
+    pub(crate) fn count_ones(&self) -> usize
+        ensures count { result ≡ ones_of (parts_of self.now) }
+        ensures most { result ≤ num_bits_of (parts_of self.now) }
+    {
+        match self {
+            AnyFilter::Classic(filter) => filter.count_ones(),
+            AnyFilter::Blocked(filter) => filter.count_ones(),
         }
     }
 
@@ -71,6 +97,17 @@ impl AnyFilter {
         match self {
             AnyFilter::Classic(filter) => filter.contains_hashes(hashes, found),
             AnyFilter::Blocked(filter) => filter.contains_hashes(hashes, found),
+        }
+    }
+
+    /// Inserts hashes, in order.
+    pub(crate) fn insert_hashes(&mut self, hashes: &[u64])
+        ensures { FillsMore self.old hashes.now self.new }
+    {
+        fill_equals_one_filter::<DefaultHasher>();
+        match self {
+            AnyFilter::Classic(filter) => filter.insert_hashes(hashes),
+            AnyFilter::Blocked(filter) => filter.insert_hashes(hashes),
         }
     }
 

@@ -3,9 +3,9 @@
 //! - `keys`: keys, which are lines, and their hashes, given to what takes them.
 //! - `waiting`: keys that wait whole, many of which are hashed at once.
 //! - `filler`, `crew`: what takes hashes: a filter of either kind, or workers that fill one.
-//! - `summary`, `blocked`: the filter of all keys of some inputs, or the blocked one.
+//! - `summary`: the filter of all keys of some inputs.
 //! - `kinds`: a filter of either kind.
-//! - `unions`, `shards`: the union of filters, also of those that have names.
+//! - `unions`, `shards`: the union of two filters, and of those that have names.
 //! - `answers`: which keys may be in.
 //! - `loading`, `head`, `form`: the filter of a reader, what the head of its file tells, and how a
 //!   filter is written.
@@ -16,7 +16,6 @@
 #![tactic(auto)]
 
 mod answers;
-mod blocked;
 mod comparing;
 mod crew;
 mod facts;
@@ -37,18 +36,15 @@ mod unions;
 mod waiting;
 
 pub use answers::{Wanted, ask};
-pub use blocked::{blocked_for, blocked_with_bits, build_blocked};
-pub use comparing::{compare_named, compared, compared_blocked};
-pub use facts::{blocked_facts_of, facts_of};
-pub use filler::Filler;
+pub use comparing::compare_named;
+pub use facts::facts_of;
 pub use form::{Form, put, put_file};
 pub use inputs::Inputs;
-pub use keys::{LONGEST, filled_from, hash_of, take_inputs, unread};
+pub use keys::unread;
 pub use kinds::AnyFilter;
 pub use loading::load;
-pub use script::{blocked_script_of, script_of};
+pub use script::script_of;
 pub use shards::{Shelf, unite_named};
-pub use sizes::{classic_for, classic_with_bits};
+pub use sizes::{blocked_for, blocked_with_bits, classic_for, classic_with_bits};
 pub use stop::{Stop, is_output, no_json, twice, unsaid, unshaped, unwritten, written};
 pub use summary::{build, build_alone};
-pub use unions::{Difference, Refusal, add, unite};

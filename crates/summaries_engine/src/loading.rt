@@ -2,9 +2,8 @@
 ghost use Rattle.std.specs.Prelude.{◌≡◌, ◌++◌, ◌<◌, ◌≤◌, IfErr, IfOk, IfSome, Some};
 ghost use Rattle.std.specs.IoError.{error_kind};
 ghost use Rattle.anyhow.specs.Error.{HasMessage};
-ghost use Rattle.bloom_files.specs.declared.layout.Layout.TheVariants.{Whole, Lines};
+ghost use Rattle.fastbloom.specs.File.{HasOwnKey};
 ghost use Rattle.fastbloom.specs.FilterFiles.{IsFileOf};
-ghost use Rattle.summaries_engine.specs.declared.kinds.AnyFilter.TheVariants.{Classic, Blocked};
 ghost use Rattle.summaries_engine.specs.Answers.{IsKeyed};
 ghost use Rattle.summaries_engine.specs.Kinds.{IsFileOfKind, parts_of};
 ghost use Rattle.summaries_engine.specs.Loaded.{IsInForm, IsRightIn, IsRightOf, IsRightWith, IsReportedOf, IsReportedOfText, IsUnloaded, IsUnread, SaysNone, hashes_text};
@@ -54,43 +53,23 @@ fn unread_text(name: &str, error: io::Error) -> Stop
     }
 }
 
-// Reads the file of a Bloom filter, of which the first bytes were read.
-fn load_classic<R: Read>(
+// Reads the file of a filter of one kind, of which the first bytes were read.
+fn load_kind<F: FilterFile, R: Read>(
     alloc: Global,
     name: &str,
     start: &[u8],
     input: &mut R,
-) -> Result<BloomFilter, Stop>
-    ensures keyed { IfOk result (λ filter. IsKeyed (Classic filter)) }
+) -> Result<F, Stop>
+    ensures keyed { IfOk result (λ filter. HasOwnKey (F.seen filter)) }
     ensures file { IfOk result (λ filter. IfSome (R.remaining input.old)
-        (λ rest. IsFileOf Whole (start.now ++ rest) filter)) }
+        (λ rest. IsFileOf F.layout (start.now ++ rest) (F.seen filter))) }
     ensures failed { IfErr result (IsUnread name.now) }
     ensures right { IfErr result (λ stop. IfSome (R.remaining input.old)
-        (λ rest. IsRightIn Whole (start.now ++ rest) name.now stop)) }
+        (λ rest. IsRightIn F.layout (start.now ++ rest) name.now stop)) }
 {
-    match BloomFilter::read_file(alloc, &mut start.chain(input)) {
+    match F::read_file(alloc, &mut start.chain(input)) {
         Ok(filter) => Ok(filter),
         Err(error) => Err(unloaded(name, error)),
-    }
-}
-
-// Reads the file of a blocked filter, of which the first bytes were read.
-fn load_blocked<R: Read>(
-    alloc: Global,
-    name: &str,
-    start: &[u8],
-    input: &mut R,
-) -> Result<BlockedBloomFilter, Stop>
-    ensures keyed { IfOk result (λ filter. IsKeyed (Blocked filter)) }
-    ensures file { IfOk result (λ filter. IfSome (R.remaining input.old)
-        (λ rest. IsFileOf Lines (start.now ++ rest) filter)) }
-    ensures failed { IfErr result (IsUnread name.now) }
-    ensures right { IfErr result (λ stop. IfSome (R.remaining input.old)
-        (λ rest. IsRightIn Lines (start.now ++ rest) name.now stop)) }
-{
-    match BlockedBloomFilter::read_file(alloc, &mut start.chain(input)) {
-        Ok(read) => Ok(read),
-        Err(why) => Err(unloaded(name, why)),
     }
 }
 
@@ -111,11 +90,11 @@ fn load_file<R: Read>(
 {
     match layout {
         Layout::Whole => {
-            let filter = load_classic(alloc, name, start, input)?;
+            let filter = load_kind::<BloomFilter, R>(alloc, name, start, input)?;
             Ok(AnyFilter::Classic(filter))
         }
         Layout::Lines => {
-            let filter = load_blocked(alloc, name, start, input)?;
+            let filter = load_kind::<BlockedBloomFilter, R>(alloc, name, start, input)?;
             Ok(AnyFilter::Blocked(filter))
         }
     }

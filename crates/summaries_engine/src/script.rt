@@ -1,11 +1,13 @@
 //! What is reported about a filter to scripts: one line of JSON.
 ghost use Rattle.std.specs.Prelude.{◌≡◌, ◌++◌, IfOk, string_bytes};
 ghost use Rattle.summaries_engine.specs.Facts.{bytes_text};
-ghost use Rattle.summaries_engine.specs.Scripts.{TellsScript, blocked_script, classic_script, items_script, parts_script, rate_script};
+ghost use Rattle.summaries_engine.specs.Kinds.{parts_of};
+ghost use Rattle.summaries_engine.specs.Scripts.{TellsScript, items_script, parts_script, rate_script};
 
 use crate::facts::{billionths_above, billionths_below, fraction_of, name_of};
 use crate::form::Form;
-use fastbloom::{BlockedBloomFilter, BloomFilter, Estimate};
+use crate::kinds::AnyFilter;
+use fastbloom::{BloomFilter, Estimate};
 use std::alloc::{AllocError, Global};
 
 // The sixteen bytes of a key, the lowest of each word first.
@@ -16,28 +18,10 @@ fn digits_of(alloc: Global, key: (u64, u64)) -> Result<String, AllocError>
     format!(in alloc; "{low:016x}{high:016x}")
 }
 
-// The members of a Bloom filter that any filter has.
+// The members of a filter of either kind.
 #[tactic(auto, unfolding(crate::specs::Scripts::parts_script))]
-fn parts_of(alloc: Global, filter: &BloomFilter, form: Form) -> Result<String, AllocError>
-    ensures { IfOk result (λ text. string_bytes text ≡ parts_script filter.now form) }
-{
-    let (form, bits, hashes) = (name_of(form), filter.num_bits(), filter.num_hashes());
-    let key = digits_of(alloc, filter.hasher().key())?;
-    let ones = filter.count_ones();
-    format!(in alloc;
-        "\"form\":\"{form}\",\"bits\":{bits},\"hashes\":{hashes},\"key\":\"{key}\",\
-        \"bits_set\":{ones}"
-    )
-}
-
-// The same of a blocked filter.
-#[tactic(auto, unfolding(crate::specs::Scripts::parts_script))]
-fn parts_of_blocked(
-    alloc: Global,
-    filter: &BlockedBloomFilter,
-    form: Form,
-) -> Result<String, AllocError>
-    ensures { IfOk result (λ text. string_bytes text ≡ parts_script filter.now form) }
+fn members_of(alloc: Global, filter: &AnyFilter, form: Form) -> Result<String, AllocError>
+    ensures { IfOk result (λ text. string_bytes text ≡ parts_script (parts_of filter.now) form) }
 {
     let (form, bits, hashes) = (name_of(form), filter.num_bits(), filter.num_hashes());
     let key = digits_of(alloc, filter.hasher().key())?;
@@ -70,42 +54,28 @@ fn rate_of(alloc: Global, filter: &BloomFilter) -> Result<String, AllocError>
     format!(in alloc; ",\"rate_low\":{low},\"rate_high\":{high}")
 }
 
-// The line of a Bloom filter, with the bounds of its items.
-fn line_of(
-    alloc: Global,
-    filter: &BloomFilter,
-    form: Form,
-    items: Estimate,
-) -> Result<String, AllocError>
-    ensures { IfOk result (λ text. string_bytes text ≡ classic_script filter.now form items) }
+// The members of a Bloom filter besides.
+fn estimates_of(alloc: Global, filter: &BloomFilter, items: Estimate) -> Result<String, AllocError>
+    ensures { IfOk result (λ text. string_bytes text
+        ≡ items_script items ++ rate_script filter.now) }
 {
-    let parts = parts_of(alloc, filter, form)?;
-    let items = items_of(alloc, items)?;
-    let rate = rate_of(alloc, filter)?;
-    format!(in alloc; "{{\"kind\":\"classic\",{parts}{items}{rate}}}\n")
+    let (items, rate) = (items_of(alloc, items)?, rate_of(alloc, filter)?);
+    format!(in alloc; "{items}{rate}")
 }
 
-/// One line of JSON that tells what `facts_of` does of a Bloom filter.
+/// One line of JSON that tells what `facts_of` does.
 ///
 /// # Errors
 /// Out of memory.
-pub fn script_of(alloc: Global, filter: &BloomFilter, form: Form) -> Result<String, AllocError>
+pub fn script_of(alloc: Global, filter: &AnyFilter, form: Form) -> Result<String, AllocError>
     ensures { IfOk result (λ text. TellsScript filter.now form (string_bytes text)) }
 {
-    line_of(alloc, filter, form, filter.estimated_items())
-}
-
-/// One line of JSON that tells what `blocked_facts_of` does of a blocked filter.
-///
-/// # Errors
-/// Out of memory.
-pub fn blocked_script_of(
-    alloc: Global,
-    filter: &BlockedBloomFilter,
-    form: Form,
-) -> Result<String, AllocError>
-    ensures { IfOk result (λ text. string_bytes text ≡ blocked_script filter.now form) }
-{
-    let parts = parts_of_blocked(alloc, filter, form)?;
-    format!(in alloc; "{{\"kind\":\"blocked\",{parts}}}\n")
+    let members = members_of(alloc, filter, form)?;
+    match filter {
+        AnyFilter::Classic(filter) => {
+            let estimates = estimates_of(alloc, filter, filter.estimated_items())?;
+            format!(in alloc; "{{\"kind\":\"classic\",{members}{estimates}}}\n")
+        }
+        AnyFilter::Blocked(_) => format!(in alloc; "{{\"kind\":\"blocked\",{members}}}\n"),
+    }
 }

@@ -1,16 +1,17 @@
 //! Filters that have names, as files do, and their union.
 ghost use Rattle.std.specs.Prelude.{map, IfErr, IfOk};
-ghost use Rattle.std.specs.Iterator.{item_count};
 ghost use Rattle.summaries_engine.specs.Answers.{IsKeyed};
-ghost use Rattle.summaries_engine.specs.Named.{AreNamed, GivesNext, StopsUniting, misfit_text};
+ghost use Rattle.summaries_engine.specs.Named.{AreNamed, StopsUniting, misfit_text};
 ghost use Rattle.summaries_engine.specs.Stops.{IsBad, Says};
 ghost use Rattle.summaries_engine.specs.Summaries.{UnitesShards};
 
 use crate::kinds::AnyFilter;
 use crate::stop::Stop;
-use crate::unions::{Difference, Refusal, unite};
+use crate::unions::{Difference, add};
 use anyhow::anyhow;
-use std::slice;
+use fastbloom::DefaultHasher;
+use fastbloom::blocked_laws::test_of_hash;
+use fastbloom::laws::{equality_of_filters, fill_of_any_cutting, filled_contains};
 
 /// Where filters lie under names.
 pub trait Shelf {
@@ -29,27 +30,6 @@ pub trait Shelf {
         ensures keyed { IfOk result IsKeyed }
         ensures named { IfOk result (has self.now name.now) }
         ensures failed { IfErr result (fails self.now name.now) };
-}
-
-// The filters of names, each loaded when it is asked for.
-#[derive(Drop)]
-struct Shards<'a, 'n, S> {
-    shelf: &'a S,
-    names: slice::Iter<'a, &'n str>,
-}
-
-impl<'a, 'n, S: Shelf> Iterator for Shards<'a, 'n, S> {
-    type Item = Result<AnyFilter, Stop>;
-
-    ghost next_gives = { GivesNext S.has S.fails (λ shards. shards.shelf.now)
-        (λ shards. map (λ name. name.now) shards.names.rest.now) };
-
-    ghost remaining = { item_count (λ shards. shards.names.rest.now) };
-
-    fn next(&mut self) -> Option<Result<AnyFilter, Stop>> {
-        let name = self.names.next()?;
-        Some(self.shelf.load(name))
-    }
 }
 
 /// Why the filter of a name doesn't fit the first.
@@ -77,22 +57,21 @@ pub fn unite_named<S: Shelf>(shelf: &S, names: &[&str]) -> Result<AnyFilter, Sto
     ensures stops { IfErr result (StopsUniting (S.has shelf.now) (S.fails shelf.now)
         (map (λ name. name.now) names.now)) }
 {
-    let Some((name, others)) = names.split_first() else {
+    equality_of_filters::<DefaultHasher>();
+    fill_of_any_cutting::<DefaultHasher>();
+    filled_contains::<DefaultHasher>();
+    test_of_hash();
+    let Some((first, others)) = names.split_first() else {
         return Err(Stop::Bad(anyhow!("no filter was named")));
     };
-    let first = shelf.load(name)?;
-    let others = Shards {
-        shelf,
-        names: others.iter(),
-    };
-    match unite(first, others) {
-        Ok(filter) => Ok(filter),
-        Err(Refusal::Unread(stop)) => Err(stop),
-        Err(Refusal::Differs(number, how)) => {
-            // The number of a filter is the index of its name.
-            prove!(names.len() <= usize::MAX);
-            prove!(number < names.len());
-            Err(misfit(names[number], name, how))
+    let mut whole = shelf.load(first)?;
+    'names: for name in others {
+        let shard = shelf.load(name)?;
+        match add(&mut whole, &shard) {
+            Ok(()) => {}
+            Err(how) => return Err(misfit(name, first, how)),
         }
     }
+    let _words = whole.as_slice();
+    Ok(whole)
 }

@@ -14,8 +14,8 @@ use std::io::Write;
 use std::rt::Files;
 use std::thread::Threads;
 use summaries_engine::{
-    AnyFilter, Stop, blocked_for, blocked_with_bits, build, build_alone, build_blocked,
-    classic_for, classic_with_bits, unsaid, unshaped,
+    AnyFilter, Stop, blocked_for, blocked_with_bits, build, build_alone, classic_for,
+    classic_with_bits, unsaid, unshaped,
 };
 
 // How large a filter is to be.
@@ -98,13 +98,15 @@ fn fill_classic<const END: u8, R: Files + Input + Eprint + AllocGlobal + Threads
     empty: BloomFilter,
     files: &KeyFiles<R>,
     names: &[&str],
-) -> Result<BloomFilter, Stop>
+) -> Result<AnyFilter, Stop>
     requires { IsEmpty empty }
 {
-    if workers > 1 {
-        build::<END, _, _>(rt, rt.alloc(), empty, workers, files, names)
-    } else {
-        build_alone::<END, _>(rt.alloc(), empty, files, names)
+    if workers <= 1 {
+        return build_alone::<END, _>(rt.alloc(), AnyFilter::Classic(empty), files, names);
+    }
+    match build::<END, _, _>(rt, rt.alloc(), empty, workers, files, names) {
+        Ok(filter) => Ok(AnyFilter::Classic(filter)),
+        Err(stop) => Err(stop),
     }
 }
 
@@ -117,14 +119,10 @@ fn classic_of<R: Files + Input + Eprint + AllocGlobal + Threads + Sync>(
 ) -> Result<AnyFilter, Stop> {
     let empty = empty_classic(rt.alloc(), size_of(matches)?, &seed_of(matches))?;
     let workers = usize::from(matches.get_one::<u16>(WORKERS).unwrap_or(1));
-    let built = if matches.get_flag(ZERO) {
+    if matches.get_flag(ZERO) {
         fill_classic::<0, R>(rt, workers, empty, files, names)
     } else {
         fill_classic::<10, R>(rt, workers, empty, files, names)
-    };
-    match built {
-        Ok(filter) => Ok(AnyFilter::Classic(filter)),
-        Err(stop) => Err(stop),
     }
 }
 
@@ -136,14 +134,11 @@ fn blocked_of<R: Files + Input + Eprint + AllocGlobal>(
     names: &[&str],
 ) -> Result<AnyFilter, Stop> {
     let empty = empty_blocked(rt.alloc(), size_of(matches)?, &seed_of(matches))?;
-    let built = if matches.get_flag(ZERO) {
-        build_blocked::<0, _>(rt.alloc(), empty, files, names)
+    let empty = AnyFilter::Blocked(empty);
+    if matches.get_flag(ZERO) {
+        build_alone::<0, _>(rt.alloc(), empty, files, names)
     } else {
-        build_blocked::<10, _>(rt.alloc(), empty, files, names)
-    };
-    match built {
-        Ok(filter) => Ok(AnyFilter::Blocked(filter)),
-        Err(stop) => Err(stop),
+        build_alone::<10, _>(rt.alloc(), empty, files, names)
     }
 }
 

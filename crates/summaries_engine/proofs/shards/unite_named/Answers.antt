@@ -1,40 +1,58 @@
-use Rattle.std.proofs.Common.{◌≡◌, Err, arith, rules}
-use Rattle.summaries_engine.proofs.NamingLemmas.{named-whole, misfit-within, stops-first, stops-misfit, stops-unread}
+use Rattle.std.proofs.Common.{◌≡◌, ◌≤◌, Err, length, rules, subst, sym}
+use Rattle.summaries_engine.proofs.NameLemmas.{first-name, names-behind, names-whole, next-name}
+use Rattle.summaries_engine.proofs.UnitingLemmas.{IsUniting, stops-first, stops-misfit, stops-unloaded, uniting-all, uniting-first, uniting-next}
 use Rattle.summaries_engine.proofs.shards.unite_named.Goals as goal
 
--- all filters were loaded and united
-pub returns-in-Ok-clause-whole : goal.returns-in-Ok-clause-whole
-returns-in-Ok-clause-whole g c =
-    named-whole g.S.Shelf.has g.S.Shelf.fails c.args.names.now c.in-Some.is
-    c.split_first.ensures.cases c.iter.ensures.rest c.in_ok-first.ensures.named
-    c.in-Ok.ensures.whole
-
 -- the first filter couldn't be loaded
-pub returns-in_err-first-clause-stops : goal.returns-in_err-first-clause-stops
-returns-in_err-first-clause-stops g c =
-    let is : c.from_residual.result ≡ Err c.in_err-first.field-0.0 = search rules in
+pub returns-in_err-whole-clause-stops : goal.returns-in_err-whole-clause-stops
+returns-in_err-whole-clause-stops g c =
+    let is : c.from_residual.result ≡ Err c.in_err-whole.field-0.0 = search rules in
     rw is
-    (stops-first g.S.Shelf.has g.S.Shelf.fails c.args.names.now c.in-Some.is
-    c.split_first.ensures.cases c.in_err-first.ensures.failed)
+    (stops-first (g.S.Shelf.has c.args.shelf.now) c.in-Some.first.now.now _
+    (first-name c.args.names.now c.in-Some.is c.split_first.ensures.cases)
+    (g.S.Shelf.fails c.args.shelf.now) c.in_err-whole.ensures.failed)
 
--- another name's filter couldn't be loaded
-pub returns-in-Err-Unread-clause-stops : goal.returns-in-Err-Unread-clause-stops
-returns-in-Err-Unread-clause-stops g c =
-    stops-unread g.S.Shelf.has g.S.Shelf.fails c.args.names.now c.in-Some.is
-    c.split_first.ensures.cases c.iter.ensures.rest c.in_ok-first.ensures.named
-    c.in-Err-Unread.ensures.refused c.in-Err-Unread.field-0-is
+-- the first filter is the whole
+pub names-init : goal.names-init
+names-init g c =
+    uniting-first (g.S.Shelf.has c.args.shelf.now) c.in-Some.first.now.now
+    c.in_ok-whole.ensures.named
 
--- the number of a filter that differs is the place of a name
-pub prove-unreachable-requires-in-Err-Differs : goal.prove-unreachable-requires-in-Err-Differs
-prove-unreachable-requires-in-Err-Differs g c =
-    let within = misfit-within g.S.Shelf.has g.S.Shelf.fails c.args.names.now c.in-Some.is
-    c.split_first.ensures.cases c.iter.ensures.rest c.in_ok-first.ensures.named c.if-prove.false
-    c.in-Err-Differs.ensures.refused c.in-Err-Differs.field-0-is in
-    omega (arith, within, c.if-prove-2.true)
+-- another filter couldn't be loaded
+pub returns-in_err-shard-clause-stops : goal.returns-in_err-shard-clause-stops
+returns-in_err-shard-clause-stops g c =
+    let is : c.from_residual-in_err-shard.result ≡ Err c.in_err-shard.field-0.0 = search rules in
+    let names = names-behind c.args.names.now c.in-Some.is c.split_first.ensures.cases
+    c.names.name-index _ c.names-test.true in
+    rw is
+    (stops-unloaded (g.S.Shelf.has c.args.shelf.now) c.in-Some.first.now.now c.names.invariant _
+    names.0 names.1 (g.S.Shelf.fails c.args.shelf.now) c.in_err-shard.ensures.failed)
 
--- a filter differs from the first
-pub returns-in-Err-Differs-clause-stops : goal.returns-in-Err-Differs-clause-stops
-returns-in-Err-Differs-clause-stops g c =
-    stops-misfit g.S.Shelf.has g.S.Shelf.fails c.args.names.now c.in-Some.is
-    c.split_first.ensures.cases c.iter.ensures.rest c.in_ok-first.ensures.named c.if-prove.false
-    c.in-Err-Differs.ensures.refused c.in-Err-Differs.field-0-is _ c.misfit.ensures
+-- another filter differs from the first
+pub returns-in-Err-clause-stops : goal.returns-in-Err-clause-stops
+returns-in-Err-clause-stops g c =
+    let names = names-behind c.args.names.now c.in-Some.is c.split_first.ensures.cases
+    c.names.name-index _ c.names-test.true in
+    stops-misfit (g.S.Shelf.has c.args.shelf.now) c.in-Some.first.now.now c.names.invariant _
+    names.0 names.1 (g.S.Shelf.fails c.args.shelf.now) _ c.in_ok-shard.ensures.named
+    c.in-Err.ensures.differs c.misfit.ensures
+
+-- one filter more
+pub names-preserved : goal.names-preserved
+names-preserved g c =
+    let has = g.S.Shelf.has c.args.shelf.now in
+    let first = c.in-Some.first.now.now in
+    subst (λ names. IsUniting has first names c.add.new.whole)
+    (sym (next-name c.in-Some.others.now c.names.name-index _ c.names-test.true))
+    (uniting-next has first c.names.invariant _ c.in_ok-shard.ensures.named c.in-Ok.ensures.fits
+    c.in-Ok.ensures.unites)
+
+-- all filters were loaded and united
+pub returns-clause-whole : goal.returns-clause-whole
+returns-clause-whole g c =
+    let last : length c.in-Some.others.now ≤ c.names.name-index = search rules in
+    uniting-all (g.S.Shelf.has c.args.shelf.now) c.in-Some.first.now.now c.names.invariant
+    (names-whole c.args.names.now c.in-Some.is c.split_first.ensures.cases c.names.name-index last)
+    c.equality_of_filters.ensures.words c.equality_of_filters.ensures.content
+    c.fill_of_any_cutting.ensures c.filled_contains.ensures c.test_of_hash.ensures
+    c.as_slice-words.ensures.range

@@ -2,7 +2,7 @@ use Rattle.std.proofs.Common.{◌∙◌}
 use Rattle.std.proofs.lemmas.Result.{IfOk-weaker}
 use Rattle.summaries_engine.specs.Sizes.{HasSeed, IsEmpty, IsSizedFor}
 use Rattle.summaries_engine.proofs.EmptyLemmas.{empty-made, key-made, sized-made}
-use Rattle.summaries_engine.proofs.blocked.blocked_for.Goals as goal
+use Rattle.summaries_engine.proofs.sizes.blocked_for.Goals as goal
 
 -- the builder has a key
 pub returns-clause-empty : goal.returns-clause-empty

@@ -1,6 +1,6 @@
 use Rattle.std.proofs.Common.{◌∙◌}
 use Rattle.summaries_engine.proofs.EmptyLemmas.{empty-zeros}
-use Rattle.summaries_engine.proofs.blocked.blocked_with_bits.Goals as goal
+use Rattle.summaries_engine.proofs.sizes.blocked_with_bits.Goals as goal
 
 -- the builder has zero words and a key
 pub returns-clause-empty : goal.returns-clause-empty
