@@ -1,6 +1,7 @@
-//! Lines of 70,000 bytes that come, and go, a byte at a time: of no stream more than 2^16 calls are
-//! too many.
+//! Lines of 70,000 bytes that come, and go, a byte at a time, and as many events and words: of no
+//! stream, run or filter more than 2^16 are too many.
 use crate::engines::faulty::{NARROW, SLOW, Seen, Sink, Source};
+use fastbloom::{Call, Event, FilterError, SeatedBloomFilter, run};
 use lines::{LineReader, Next, put_line, read_full};
 use std::alloc::Global;
 use std::io;
@@ -52,4 +53,36 @@ fn are_whole(alloc: Global) -> io::Result<bool> {
 #[test]
 fn long_lines_come_and_go_a_byte_at_a_time(rt: HostRuntime) {
     assert!(rt; matches!(are_whole(rt.alloc()), Ok(true)));
+}
+
+// Whether a run records each of 70,000 events.
+fn are_recorded(alloc: Global) -> Result<bool, FilterError> {
+    let mut schedule = Vec::new(alloc);
+    for party in 0..70_000usize {
+        let call = Call::Clear;
+        schedule.push(Event::Begin { party, call })?;
+    }
+    match run(alloc, &[0], 1, 70_000, schedule.as_slice()) {
+        Ok(trace) => Ok(trace.records().len() == 70_000),
+        Err(refusal) => Err(refusal),
+    }
+}
+
+// Whether a seated filter is closed to its 70,000 words.
+fn are_closed(alloc: Global) -> Result<bool, FilterError> {
+    let words = vec![in alloc; 5u64; 70_000]?;
+    let (filter, mut passes) = SeatedBloomFilter::new(alloc, words, 2, 1)?;
+    let Some(pass) = passes.pop() else {
+        unreachable!()
+    };
+    match filter.close(alloc, pass) {
+        Ok(words) => Ok(words.len() == 70_000),
+        Err(refusal) => Err(refusal),
+    }
+}
+
+#[test]
+fn many_events_and_words_lack_no_memory(rt: HostRuntime) {
+    assert!(rt; matches!(are_recorded(rt.alloc()), Ok(true)));
+    assert!(rt; matches!(are_closed(rt.alloc()), Ok(true)));
 }

@@ -173,7 +173,7 @@ fn has_all(scene: &Scene<'_>, hashes: &[u64], copy: &mut [u64]) -> bool {
         all &= has_many(scene, some) & has_many_ahead(scene, some);
         all &= in_lines::has_calls(scene, some);
     }
-    if copy.len() <= 64 {
+    if copy.len() <= 1000 {
         all &= has_meetings(scene) & in_lines::has_rate(scene) & has_whole(scene, copy);
     }
     all
@@ -234,6 +234,7 @@ const SHAPES: &'static [(usize, u32)] = &[
     (1, 64),
     (17, 65),
     (64, 1000),
+    (1000, 7),
     (131_071, 1),
     (131_072, 3),
     (524_287, 2),

@@ -1,15 +1,16 @@
-//! What calls on files, and `serve`, ask of their readers and writers: each read by its room, each
-//! write by its length, and each flush of what waits, in order. Nothing else is asked.
+//! What calls on files and texts, and `serve`, ask of their readers and writers: each read by its
+//! room, each write by its length, and each flush of what waits, in order. Nothing else is asked.
 mod rows;
 
 use crate::row_reports::tell_row;
 use bloom_engine::serve;
 use fastbloom::{BlockedBloomFilter, BloomFilter, FileError, FilterError, FilterFile};
-use rows::{FILES, File, SERVED, Served};
+use rows::{FILES, File, SERVED, Served, TEXT};
 use std::alloc::Global;
 use std::cell::Cell;
 use std::io;
 use std::io::{Read, Write};
+use summaries_engine::put;
 
 /// What a reader or a writer is asked.
 #[derive(Clone, Copy, PartialEq, Eq)]
@@ -126,6 +127,18 @@ fn files_are_written_and_read_by_blocks(rt: HostRuntime) {
     for (i, row) in FILES.iter().enumerate() {
         assert!(rt; tell_row(&rt, i, are_kept(rt.alloc(), row) == Ok(true)));
     }
+}
+
+// Whether the text of a filter of one word is written as it is to be.
+fn is_text(alloc: Global) -> Result<bool, FilterError> {
+    let filter = BloomFilter::with_num_bits(alloc, 64)?.hashes(2);
+    let notes = Notes::new(TEXT);
+    Ok(put(alloc, &filter, &mut notes.desk(&[], 0)).is_ok() & notes.are_right())
+}
+
+#[test]
+fn a_text_is_written_at_once(rt: HostRuntime) {
+    assert!(rt; matches!(is_text(rt.alloc()), Ok(true)));
 }
 
 // Whether lines are served as their row says.

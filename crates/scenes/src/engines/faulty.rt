@@ -22,6 +22,9 @@ pub(crate) const WHOLE: Reading = Reading {
     fails: None,
 };
 
+/// A reader that gives sixteen bytes a read, and so the beginning of a line behind another.
+pub(crate) const HALVES: Reading = Reading { piece: 16, ..WHOLE };
+
 /// A reader that gives a byte a read, with interrupted reads before each.
 pub(crate) const SLOW: Reading = Reading {
     piece: 1,

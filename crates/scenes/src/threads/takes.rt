@@ -1,10 +1,12 @@
 //! Words that are taken out of a filter into which threads insert.
 use super::tasks::{Act, work};
-use super::{Child, Shared, join_all, start};
+use super::{Anything, Child, Shared, join_all, start};
 use crate::drawn::spread;
+use crate::row_reports::tell_row;
 use fastbloom::{AtomicBloomFilter, BloomFilter, FilterError};
 use std::alloc::Global;
 use std::sync::Arc;
+use std::thread;
 use std::thread::Threads;
 
 // The words of 4096 bits.
@@ -85,4 +87,61 @@ fn lose_no_bit<R: Threads>(rt: &R, alloc: Global) -> bool {
 #[test]
 fn words_taken_and_words_left_are_all_that_was_inserted(rt: HostRuntime) {
     assert!(rt; lose_no_bit(&rt, rt.alloc()));
+}
+
+// Numbers of which each has a position of its own in a filter with one hash.
+fn numbers_apart(alloc: Global, bits: usize) -> Result<Vec<u64>, FilterError> {
+    let mut plain = BloomFilter::with_num_bits(alloc, bits)?.hashes(1);
+    let mut numbers = Vec::new(alloc);
+    for i in 0..50_000u64 {
+        if !plain.insert(&i) {
+            numbers.push(i)?;
+        }
+    }
+    Ok(numbers)
+}
+
+// How many bits are set in the words that are taken out.
+fn taken_ones(alloc: Global, filter: &AtomicBloomFilter) -> Result<u64, FilterError> {
+    let mut ones = 0u64;
+    for word in filter.take_words(alloc)?.as_slice() {
+        ones = ones.wrapping_add(word.count_ones() as u64);
+    }
+    Ok(ones)
+}
+
+// Whether each number that a thread inserts beside takes sets its bit once: it is taken once, or
+// left.
+fn set_once<R: Threads>(rt: &R, alloc: Global, bits: usize) -> Result<bool, FilterError> {
+    let filter = AtomicBloomFilter::with_num_bits(alloc, bits)?.hashes(alloc, 1)?;
+    let shared = Arc::new(alloc, filter)?;
+    let numbers = numbers_apart(alloc, bits)?;
+    let filter = Arc::try_clone(&shared)?;
+    let count = numbers.len() as u64;
+    let mut children = Vec::new(alloc);
+    let extend = move || {
+        filter.extend(numbers.iter().copied());
+        (0, 0)
+    };
+    match thread::spawn_with(rt, Anything, extend) {
+        Ok(child) => children.push(child)?,
+        Err(_refused) => return Err(FilterError::Worker),
+    }
+    let mut ones = 0u64;
+    for _ in 0..4 {
+        ones = ones.wrapping_add(taken_ones(alloc, &shared)?);
+    }
+    join_all(rt, children);
+    Ok(ones.wrapping_add(taken_ones(alloc, &shared)?) == count)
+}
+
+// Of four mebibytes sixteen numbers are inserted together.
+#[test]
+fn each_number_sets_its_bit_once_beside_takes(rt: HostRuntime) {
+    for (bits, rounds) in [(1 << 12, 20), (1 << 25, 2)] {
+        for _ in 0..rounds {
+            let are_set = set_once(&rt, rt.alloc(), bits);
+            assert!(rt; tell_row(&rt, bits, matches!(are_set, Ok(true))));
+        }
+    }
 }

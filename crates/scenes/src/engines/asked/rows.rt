@@ -41,6 +41,9 @@ pub(super) const FILES: &'static [File] = &[
     ),
 ];
 
+/// What is asked where the text of a filter is written.
+pub(super) const TEXT: &'static [Asked] = &[Write(60), Write(1), Flush];
+
 /// Lines, and the most bytes of a read; what is asked where they are served.
 pub(super) type Served = (&'static str, usize, &'static [Asked]);
 

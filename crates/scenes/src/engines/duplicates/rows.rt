@@ -1,7 +1,7 @@
 //! Runs, what each writes, and how it ends.
 mod run;
 
-use crate::engines::faulty::{FLUSHED_ONCE, FULL, NARROW, SLOW, STUCK, UNFLUSHED};
+use crate::engines::faulty::{FLUSHED_ONCE, FULL, HALVES, NARROW, SLOW, STUCK, UNFLUSHED};
 use duplicates_engine::{Fault, Tally, Total, Written};
 use fastbloom::{FilterError, GrowingError};
 use run::{LATE, PASSING};
@@ -36,6 +36,19 @@ pub(super) const RUNS: &'static [Row] = &[
         },
         OUTPUT,
         ALL,
+    ),
+    (
+        Run {
+            inputs: &["a\nthe beginning waits"],
+            longest: 99,
+            reading: HALVES,
+            ..PLAIN
+        },
+        "a\nthe beginning waits\n",
+        Ok(Total {
+            tally: Tally { read: 2, held: 0 },
+            longer: 0,
+        }),
     ),
     (
         Run {

@@ -1,6 +1,6 @@
 //! The files of filters, and acts over them: what each writes, and why it stops early.
 use crate::engines::faulty::{
-    FAILING, FULL, KINDS, NARROW, ROOMY, Reading, SLOW, STUCK, UNFLUSHED, WHOLE, Writing,
+    FAILING, FULL, HALVES, KINDS, NARROW, ROOMY, Reading, SLOW, STUCK, UNFLUSHED, WHOLE, Writing,
 };
 
 // The files of filters of 64 bits and two hashes, of the key "a", and of "a" and "b". Their words
@@ -119,6 +119,14 @@ pub(crate) const ACTS: &'static [Row] = &[
     (Act::Build, b"a\nb\n", FAILING, ROOMY, b"", UNREAD),
     (Act::Ask, b"b\na\nc\na", SLOW, NARROW, b"a\na\n", ""),
     (Act::Ask, b"a\na\na", FAILING, ROOMY, b"a\na\n", UNREAD),
+    (
+        Act::Ask,
+        b"a\nthe beginning waits",
+        HALVES,
+        ROOMY,
+        b"a\n",
+        "",
+    ),
     (
         Act::Ask,
         b"a\na\n",

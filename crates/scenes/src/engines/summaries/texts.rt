@@ -2,7 +2,7 @@
 use crate::row_reports::tell_row;
 use fastbloom::{BloomFilter, FilterError};
 use std::alloc::{AllocError, Global};
-use summaries_engine::{AnyFilter, Form, load};
+use summaries_engine::{AnyFilter, Form, load, put};
 
 // The text of a filter whose words are 1 to 8, this many times.
 fn text_of(alloc: Global, times: usize) -> Result<Vec<u8>, AllocError> {
@@ -12,7 +12,7 @@ fn text_of(alloc: Global, times: usize) -> Result<Vec<u8>, AllocError> {
         text.extend_from_slice(rest)?;
         text.extend_from_slice(b",2,3,4,5,6,7,8")?;
     }
-    text.extend_from_slice(b"]},\"num_hashes_minus_one\":1,\"k0\":0,\"k1\":0}")?;
+    text.extend_from_slice(b"]},\"num_hashes_minus_one\":1,\"k0\":0,\"k1\":0}\n")?;
     Ok(text)
 }
 
@@ -42,7 +42,13 @@ fn is_read(alloc: Global, text: &[u8], filter: &BloomFilter) -> bool {
     }
 }
 
-// Whether the filter is read from its text.
+// Whether a filter is written as a text.
+fn is_written(alloc: Global, text: &[u8], filter: &BloomFilter) -> bool {
+    let mut output = Vec::new(alloc);
+    put(alloc, filter, &mut output).is_ok() & (output.as_slice() == text)
+}
+
+// Whether the filter is read from its text, and written as it.
 fn comes_back(alloc: Global, times: usize) -> bool {
     let Ok(text) = text_of(alloc, times) else {
         return false;
@@ -50,7 +56,7 @@ fn comes_back(alloc: Global, times: usize) -> bool {
     let Ok(filter) = filter_of(alloc, times) else {
         return false;
     };
-    is_read(alloc, text.as_slice(), &filter)
+    is_read(alloc, text.as_slice(), &filter) & is_written(alloc, text.as_slice(), &filter)
 }
 
 // Of eight words, of 65,536 and of 2^20, which are more than a million.
