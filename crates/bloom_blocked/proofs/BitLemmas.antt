@@ -1,10 +1,8 @@
 -- Bit sets of one word, and of a word after the other.
 use Rattle.std.proofs.Common.{◌≢◌, eqb, ◌≡◌, ◌<◌, ◌+◌, ◌*◌, ◌/◌, ◌%◌, ◌^◌, ℕ, Bool, ◌||◌, ◌&&◌, ◌==◌, if◌then◌else◌, List, length, set, get_or, bit_or, nat_lt, [], ◌∷◌, ◌≤◌, refl, sym, ◌∙◌, ap, subst, arith, inl, inr}
-use Rattle.std.proofs.lemmas.Bool.{cases_eq, cases_lt, lt-ltb, le-ltb}
+use Rattle.bloom_blocked.proofs.Common.{cases_eq, cases_lt, lt-ltb, le-ltb, bit_at, bit_is_on, content}
 use Rattle.std.proofs.Math.Arith.{lt_of_le-ne}
 use Rattle.std.proofs.lemmas.List.{get_or-set_same, get_or-set_other}
-use Rattle.std.specs.Int.{bit_at}
-use Rattle.bloom_parts.specs.Content.{bit_is_on, content}
 use Rattle.bloom_parts.proofs.PublishedLemmas.{content-where}
 
 -- a bit of a word that is set where it is to be, and the others

@@ -2,15 +2,9 @@
 -- case that holds and cases as near as can be that don't.
 use Rattle.std.proofs.Common.{◌≡◌, ◌≤◌, ◌<◌, ◌+◌, ◌^◌, ℕ, true, false, ◌||◌, [], ◌∷◌, replicate, refl, ap, ◌∙◌, arith, lit<}
 use Rattle.std.proofs.lemmas.Bool.{both_ways, false_from_ne_true}
-use Rattle.bloom_parts.specs.Chain.{chain}
-use Rattle.bloom_parts.specs.Content.{content}
-use Rattle.bloom_parts.specs.Places.{positions, are_in}
+use Rattle.bloom_blocked.proofs.Common.{chain, content, positions, are_in, Filter, num_lines_of, contains_in_line, InsertsInLine, InsertsAllInLines, InsertsItemsInLines, line_positions, positions_in_lines}
 use Rattle.bloom_parts.proofs.PublishedLemmas.{content-past}
-use Rattle.bloom_plain.specs.Filter.{Filter}
 use Rattle.bloom_plain.proofs.CaseLemmas.{content-case}
-use Rattle.bloom_blocked.specs.Blocked.{num_lines_of, contains_in_line, InsertsInLine, InsertsAllInLines, InsertsItemsInLines}
-use Rattle.bloom_blocked.specs.Lines.{line_positions}
-use Rattle.bloom_blocked.specs.Many.{positions_in_lines}
 use Rattle.bloom_blocked.proofs.Cases.{line, zeros, with_one}
 use Rattle.bloom_blocked.proofs.PositionLemmas.{line_range_law}
 

@@ -1,11 +1,7 @@
 -- What the laws of inserts of many hashes give in one line, from premises that other facts hold in
 -- place.
 use Rattle.std.proofs.Common.{◌≡◌, ℕ, true, [], ◌∷◌, refl}
-use Rattle.bloom_parts.specs.Chain.{chain}
-use Rattle.bloom_parts.specs.Content.{content}
-use Rattle.bloom_parts.specs.Places.{are_in}
-use Rattle.bloom_plain.specs.Filter.{Filter}
-use Rattle.bloom_blocked.specs.Blocked.{InsertsAllInLines, contains_in_line}
+use Rattle.bloom_blocked.proofs.Common.{chain, content, are_in, Filter, InsertsAllInLines, contains_in_line}
 use Rattle.bloom_blocked.specs.BlockedLaws.{InsertsOneByOne, KeptByInsertsInLinesLaw, OneByOneLaw}
 use Rattle.bloom_blocked.proofs.Cases.{zeros, with_one}
 

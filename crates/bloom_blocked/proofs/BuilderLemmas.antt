@@ -5,8 +5,7 @@ use Rattle.bloom_parts.specs.declared.error.FilterError.{FilterError}
 use Rattle.bloom_parts.specs.declared.error.FilterError.TheVariants.{SizeOverflow}
 use Rattle.bloom_parts.specs.Rates.{num_of, den_of}
 use Rattle.bloom_plain.specs.Builders.{RateStart, RefusesAs}
-use Rattle.bloom_plain.proofs.BuilderLemmas.{size_of-rate}
-use Rattle.bloom_blocked.specs.BlockedSizing.{IsSizeInLines, IsTooLargeInLines, IsSizeInLinesOf, line_size_refusal}
+use Rattle.bloom_blocked.proofs.Common.{size_of-rate, IsSizeInLines, IsTooLargeInLines, IsSizeInLinesOf, line_size_refusal}
 
 -- a size that is too large is refused as such
 pub refused-large : {S : Type 0} (inside start : RateStart S) (expected items : ℕ)

@@ -2,20 +2,10 @@
 -- one hash one step makes its insert or its look-up. Hash 1 has the positions 162 and 13, so that
 -- with two hashes it sets the words 8192 and 17179869184.
 use Rattle.std.proofs.Common.{◌≡◌, ◌/◌, ◌%◌, ◌<◌, ◌↔◌, ℕ, Bool, false, true, zero, suc, [], ◌∷◌, Some, nat_eq, slice_get, refl, sym, ◌∙◌, ap, subst, arith, lit<}
-use Rattle.std.proofs.lemmas.Bool.{eqb-true, ne_eqb}
+use Rattle.bloom_blocked.proofs.Common.{eqb-true, ne_eqb, none-some, same_Some, chain, bit_is_on, place, positions, Filter, Contains, Answer, Lacks, SetsByWords, SetsItsPart, IsScript, Taken, inner_of}
 use Rattle.std.proofs.lemmas.Nat.Bits.{bit_at-pow_other}
-use Rattle.std.proofs.lemmas.Option.{none-some, same_Some}
-use Rattle.bloom_parts.specs.Chain.{chain}
-use Rattle.bloom_parts.specs.Content.{bit_is_on}
-use Rattle.bloom_parts.specs.Places.{place, positions}
-use Rattle.bloom_plain.specs.Filter.{Filter}
-use Rattle.bloom_steps.specs.declared.steps.vocabulary.Call.TheVariants.{Contains}
-use Rattle.bloom_steps.specs.declared.steps.vocabulary.End.TheVariants.{Answer}
 use Rattle.bloom_steps.specs.declared.steps.vocabulary.Step.TheVariants.{Load, Or}
-use Rattle.bloom_steps.specs.ByWords.{Lacks, SetsByWords, SetsItsPart}
-use Rattle.bloom_steps.specs.Scripts.{IsScript, Taken}
 use Rattle.bloom_steps.specs.Steps.{load_at}
-use Rattle.bloom_blocked.specs.Lines.{inner_of}
 
 -- the greatest hash of 64 bits
 abbrev pub greatest : ℕ

@@ -1,11 +1,7 @@
 -- The laws of blocked filters.
 use Rattle.std.proofs.Common.{ℕ, ◌/◌, Bool, ◌||◌, List, [], ◌∷◌, refl, sym, ◌∙◌, ap, subst}
-use Rattle.std.proofs.lemmas.Bool.{or_left}
-use Rattle.std.proofs.Math.Bool.{or-false}
-use Rattle.bloom_parts.specs.Content.{content}
-use Rattle.bloom_plain.specs.Filter.{Filter}
+use Rattle.bloom_blocked.proofs.Common.{or_left, or-false, content, Filter, line_place, line_positions}
 use Rattle.bloom_plain.proofs.LawLemmas.{IsLawful, contains-greater}
-use Rattle.bloom_blocked.specs.Lines.{line_place, line_positions}
 use Rattle.bloom_blocked.specs.Blocked.{in_lines, num_lines_of, InsertsInLine, InsertsAllInLines}
 use Rattle.bloom_blocked.specs.BlockedLaws.{KeptByInsertsInLinesLaw, InsertsOneByOne, OneByOneLaw}
 use Rattle.bloom_blocked.proofs.PositionLemmas.{line_positions_law, line_subset_law}

@@ -4,6 +4,7 @@ mod BlockedLawFacts
 mod BlockedSizingFacts
 mod BuilderLemmas
 mod Cases
+mod Common
 pub mod LawLemmas
 mod LineCourseLaws
 mod LineFacts

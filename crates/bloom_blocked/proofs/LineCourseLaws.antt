@@ -1,23 +1,14 @@
 -- The calls on a blocked filter are of a kind: an insert sets the positions of its hash, and a
 -- look-up loads their words. So every interleaving of them gives what it gives for each kind.
 use Rattle.std.proofs.Common.{◌%◌, ◌*◌, ◌+◌, ◌-◌, ◌/◌, ◌∙◌, ◌≡◌, Bool, List, ap, arith, lit<, map, refl, subst, sym, true, ℕ}
-use Rattle.std.proofs.lemmas.List.{length-map}
-use Rattle.bloom_parts.specs.Content.{bit_is_on}
-use Rattle.bloom_parts.specs.Places.{place, positions}
+use Rattle.bloom_blocked.proofs.Common.{length-map, bit_is_on, place, positions, Contains, Answer, Load, step_from, Any, IsScript, Taken, IsLineScript, taken_from, are_in_line, in_line, inner_of, line_of, line_place, line_positions}
 use Rattle.bloom_parts.proofs.PublishedLemmas.{are_in-off, range_law}
-use Rattle.bloom_steps.specs.declared.steps.vocabulary.Call.TheVariants.{Contains}
-use Rattle.bloom_steps.specs.declared.steps.vocabulary.End.TheVariants.{Answer}
-use Rattle.bloom_steps.specs.declared.steps.vocabulary.Step.TheVariants.{Load}
 use Rattle.bloom_steps.specs.ByWords.{IsThere, Lacks, SetsByWords, SetsItsPart}
 use Rattle.bloom_steps.specs.Carried.{IsCourseOf}
 use Rattle.bloom_steps.specs.CourseLaws.{CourseTells}
 use Rattle.bloom_steps.specs.Courses.{Course}
-use Rattle.bloom_steps.specs.LiveSteps.{step_from}
-use Rattle.bloom_steps.specs.Scripts.{Any, IsScript, Taken}
 use Rattle.bloom_steps.specs.Steps.{step_decides, word_index}
 use Rattle.bloom_steps.proofs.CourseLemmas.{FoundOff, InsertSteps, Kind, LookSteps, Sets, are_in-all, course_tells, or-parts, or-sets, union-steps}
-use Rattle.bloom_blocked.specs.LineCourses.{IsLineScript, taken_from}
-use Rattle.bloom_blocked.specs.Lines.{are_in_line, in_line, inner_of, line_of, line_place, line_positions}
 use Rattle.bloom_blocked.proofs.LineLemmas.{inner-fits}
 use Rattle.bloom_blocked.proofs.MovedLemmas.{bit-moved, each-moved, map-get, map-got}
 use Rattle.bloom_blocked.proofs.PositionLemmas.{line_positions_law, moved, parts-of}

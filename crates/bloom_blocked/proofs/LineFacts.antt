@@ -3,15 +3,10 @@
 -- knows the description alone made the numbers: with four hashes the greatest hash has the
 -- positions 1373, 1522, 1199 and 1082 in three lines, and hash 1 has 162, 13, 336 and 453 in one.
 use Rattle.std.proofs.Common.{◌≡◌, ◌/◌, ◌<◌, ℕ, Bool, true, false, [], ◌∷◌, slice_index, refl, sym, arith, lit<, lit≤}
-use Rattle.std.proofs.lemmas.Bool.{both_ways}
-use Rattle.bloom_parts.specs.Chain.{chain}
-use Rattle.bloom_parts.specs.Content.{content}
-use Rattle.bloom_parts.specs.Places.{IsPart, positions, are_in}
+use Rattle.bloom_blocked.proofs.Common.{both_ways, chain, content, IsPart, positions, are_in, is_new, bits-next, no-bit}
 use Rattle.bloom_blocked.specs.Blocked.{IsBlockedShape}
 use Rattle.bloom_blocked.specs.Lines.{line_of, inner_of, in_line, line_positions, are_in_line, IsLinePosition, LinePositionsLaw, LineSubsetLaw, LineRangeLaw, OneLineLaw}
-use Rattle.bloom_parts.specs.Many.{is_new}
 use Rattle.bloom_blocked.specs.Many.{positions_in_lines, TellsFoundInLines, TellsNewInLines}
-use Rattle.bloom_parts.proofs.PublishedLemmas.{bits-next, no-bit}
 use Rattle.bloom_blocked.proofs.BitLemmas.{word-where}
 use Rattle.bloom_blocked.proofs.Cases.{greatest, with_one}
 

@@ -1,13 +1,7 @@
 -- The words of a line, as words of a filter of their own, and put back among the others.
 use Rattle.std.proofs.Common.{◌++◌, ◌≢◌, ◌≡◌, ℕ, zero, suc, ◌+◌, ◌-◌, ◌*◌, ◌/◌, ◌%◌, ◌^◌, ◌<◌, ◌≤◌, Bool, ◌||◌, ◌&&◌, eqb, List, length, get_or, take, drop, refl, sym, ◌∙◌, ap, arith, inl, inr, lit<, length-drop}
-use Rattle.std.specs.Int.{bit_at}
-use Rattle.std.proofs.Math.Bool.{or-false}
-use Rattle.std.proofs.lemmas.Bool.{cases_eq, cases_lt, eq-eqb, ne_eqb}
+use Rattle.bloom_blocked.proofs.Common.{bit_at, or-false, cases_eq, cases_lt, eq-eqb, ne_eqb, bit_is_on, content, place, positions, are_in, range_law, position-to, place-position, line_of, inner_of, in_line, line_positions, are_in_line}
 use Rattle.std.proofs.lemmas.List.{get_or-take, get_or-drop, get_or_append_left, get_or-append_right, length-take-le}
-use Rattle.bloom_parts.specs.Content.{bit_is_on, content}
-use Rattle.bloom_parts.specs.Places.{place, positions, are_in}
-use Rattle.bloom_parts.proofs.PublishedLemmas.{range_law, position-to, place-position}
-use Rattle.bloom_blocked.specs.Lines.{line_of, inner_of, in_line, line_positions, are_in_line}
 use borrow.Rule.Slice.PartMut.{put_mid}
 
 -- all are in two sets alike that agree on the places

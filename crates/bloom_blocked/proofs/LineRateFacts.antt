@@ -2,9 +2,8 @@
 -- as can be that don't.
 use Rattle.std.proofs.Common.{◌≡◌, ◌^◌, ◌≤◌, ℕ, List, [], ◌∷◌, get_or, refl, arith, lit<, lit≤}
 use Rattle.bloom_parts.specs.Draws.{sum_below, sum_draws, all_in}
-use Rattle.bloom_parts.specs.Made.{SharedWords, FoundByLoad}
+use Rattle.bloom_blocked.proofs.Common.{SharedWords, FoundByLoad, line_words, BoundsLines, BoundsLoadedLines, LineWasLoaded}
 use Rattle.bloom_parts.specs.declared.math.bracket.Bracket.{Bracket}
-use Rattle.bloom_blocked.specs.LineRates.{line_words, BoundsLines, BoundsLoadedLines, LineWasLoaded}
 
 abbrev nine : List ℕ
 nine = 10 ∷ 11 ∷ 12 ∷ 13 ∷ 14 ∷ 15 ∷ 16 ∷ 17 ∷ 18 ∷ []

@@ -1,15 +1,13 @@
 -- Sums of the bounds of the rates of lines, and their means.
 use Rattle.std.proofs.Common.{◌≡◌, ℕ, zero, suc, ◌+◌, ◌*◌, ◌/◌, ◌^◌, ◌<◌, ◌≤◌, List, eqb, if◌then◌else◌, refl, sym, ap, subst, inl, inr, arith}
-use Rattle.std.specs.Int.{div_ceil}
+use Rattle.bloom_blocked.proofs.Common.{div_ceil, content, SharedWords}
 use Rattle.std.proofs.lemmas.Bool.{cases_eq, cond-false, cond-true, eq-eqb, ne_eqb}
 use Rattle.std.proofs.lemmas.Grind.{div_ceil_times}
 use Rattle.std.proofs.Math.Nat.{div-mul-le_self, lt_of_mul-lt-mul_right, mul-le-mul_right}
 use Rattle.bloom_parts.specs.Brackets.{low_of, high_of}
-use Rattle.bloom_parts.specs.Content.{content}
 use Rattle.bloom_parts.specs.Counts.{count_on}
 use Rattle.bloom_parts.specs.Draws.{sum_below, positives}
 use Rattle.bloom_parts.specs.FalsePositives.{BoundsPositives}
-use Rattle.bloom_parts.specs.Made.{SharedWords}
 use Rattle.bloom_parts.specs.declared.math.bracket.Bracket.{Bracket}
 use Rattle.bloom_blocked.specs.LineRates.{positives_in_lines, BoundsLines, BoundsLoadedLines, LineWasLoaded}
 

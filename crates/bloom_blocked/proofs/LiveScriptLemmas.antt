@@ -1,16 +1,9 @@
 -- From the steps that a live call made on its line to a script of a course.
 use Rattle.std.proofs.Common.{[], ◌∙◌, ◌∷◌, ◌≡◌, ◌↔◌, Bool, List, Some, ap, arith, false, map, refl, suc, sym, true, zero, ℕ}
-use Rattle.std.proofs.lemmas.Bool.{both_ways}
-use Rattle.std.proofs.lemmas.List.{length-map}
-use Rattle.std.proofs.lemmas.Option.{none-some, same_Some}
-use Rattle.bloom_parts.specs.Made.{SharedWords}
-use Rattle.bloom_steps.specs.declared.steps.vocabulary.Call.TheVariants.{Contains, Insert}
+use Rattle.bloom_blocked.proofs.Common.{both_ways, length-map, none-some, same_Some, SharedWords, Contains, Insert, IsMade, IsMadeFrom, IsMadeAsScript, taken_from, LooksInLine, SetsInLine, start_of}
 use Rattle.bloom_steps.specs.declared.steps.vocabulary.End.{End}
 use Rattle.bloom_steps.specs.declared.steps.vocabulary.End.TheVariants.{Answer, Done, Running}
-use Rattle.bloom_steps.specs.LiveSteps.{IsMade, IsMadeFrom}
 use Rattle.bloom_steps.specs.Scripts.{Last, Linked, Taken, answer_of, answer_of_end}
-use Rattle.bloom_blocked.specs.LineCourses.{IsMadeAsScript, taken_from}
-use Rattle.bloom_blocked.specs.LineSteps.{LooksInLine, SetsInLine, start_of}
 use Rattle.bloom_blocked.proofs.MovedLemmas.{each-moved}
 
 -- steps that were made on a line were made on all words

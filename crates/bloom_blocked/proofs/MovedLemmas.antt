@@ -1,8 +1,6 @@
 -- Steps in a part of the words, as steps of all words.
 use Rattle.std.proofs.Common.{[], ◌%◌, ◌*◌, ◌+◌, ◌∷◌, ◌≡◌, List, Some, ap, arith, map, nat_eq, refl, slice_get, subst, suc, zero, ℕ}
-use Rattle.std.specs.Int.{bit_at}
-use Rattle.std.proofs.lemmas.Option.{none-some, same_Some}
-use Rattle.bloom_parts.specs.Content.{bit_is_on}
+use Rattle.bloom_blocked.proofs.Common.{bit_at, none-some, same_Some, bit_is_on}
 use Rattle.bloom_steps.specs.Scripts.{Each, Taken}
 
 -- a member of a list, changed

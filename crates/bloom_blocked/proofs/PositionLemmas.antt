@@ -1,10 +1,8 @@
 -- The laws of the positions of a hash.
 use Rattle.std.proofs.Common.{Bool, ◌≡◌, ℕ, ◌+◌, ◌*◌, ◌/◌, ◌%◌, ◌^◌, ◌<◌, true, eqb, sym, ◌∙◌, ap, arith, lit<}
 use Rattle.std.proofs.lemmas.Bool.{and_parts, and_from, eqb-true, eq-eqb}
-use Rattle.bloom_parts.specs.Chain.{chain}
-use Rattle.bloom_parts.specs.Places.{place, positions, IsPart}
+use Rattle.bloom_blocked.proofs.Common.{chain, place, positions, IsPart, line_of, inner_of, in_line, line_positions, LinePositionsLaw, are_in_line, LineSubsetLaw, LineRangeLaw}
 use Rattle.bloom_parts.proofs.PublishedLemmas.{position-from, position-to, place-position, part-from, part-to, range_law}
-use Rattle.bloom_blocked.specs.Lines.{line_of, inner_of, in_line, line_positions, LinePositionsLaw, are_in_line, LineSubsetLaw, LineRangeLaw}
 use Rattle.bloom_blocked.proofs.LineLemmas.{place-below, inner-fits}
 
 -- what holds of a position of a hash: its line, and its place there

@@ -1,14 +1,10 @@
 -- What bits tell of some of many hashes, and of those that stand at these places among all.
 use Rattle.std.proofs.Common.{◌≡◌, ◌≤◌, ◌<◌, ◌+◌, ◌-◌, ◌*◌, ℕ, Bool, true, ◌&&◌, not, min, set, List, [], ◌∷◌, length, nat_lt, slice_index, take, drop, refl, sym, ◌∙◌, ap, arith, inl, inr, length-drop}
 use Rattle.std.specs.List.{list_any}
-use Rattle.std.proofs.lemmas.Bool.{cases_lt, lt-ltb, le-ltb, or_left}
+use Rattle.bloom_blocked.proofs.Common.{cases_lt, lt-ltb, le-ltb, or_left, content, content-zeros, many-stretch, line_positions, are_in_line, all_are_in_lines, TellsNewInLines}
 use Rattle.std.proofs.lemmas.List.{get_or-take, get_or-drop, length-take-le, take-take}
 use Rattle.std.proofs.lemmas.List.Sums.{AllPass-from_list_all}
-use Rattle.bloom_parts.specs.Content.{content}
 use Rattle.bloom_parts.specs.Many.{with_all, is_found, is_new, Tells}
-use Rattle.bloom_parts.proofs.PublishedLemmas.{content-zeros, many-stretch}
-use Rattle.bloom_blocked.specs.Lines.{line_positions, are_in_line}
-use Rattle.bloom_blocked.specs.Many.{all_are_in_lines, TellsNewInLines}
 use Rattle.bloom_blocked.proofs.BitLemmas.{bits-word}
 use Rattle.bloom_blocked.proofs.PositionLemmas.{line-greater}
 

@@ -1,15 +1,11 @@
 -- The first line that isn't good.
 use Rattle.std.proofs.Common.{◌≡◌, ℕ, ◌<◌, Bool, true, false, cond, eqb, leb, List, [], ◌∷◌, ◌++◌, length, map, Option, Some, None, IfSome, refl, sym, ◌∙◌, ap, append_assoc, append-nil, length-append, arith, inl, inr, ◌⊎◌, subst}
-use Rattle.std.specs.Io.KnownBytes.{prepend_known}
-use Rattle.std.proofs.lemmas.Bool.{and_left, and_right, cond-false, lt-leb}
-use Rattle.bloom_engine.specs.declared.engine.line.Line.{Line}
+use Rattle.bloom_engine.proofs.Common.{prepend_known, and_left, and_right, cond-false, lt-leb, Line, NextCommand, IsReadUpTo}
 use Rattle.bloom_engine.specs.declared.engine.commands.Next.TheVariants as next
 use Rattle.lines.specs.Lines.{lines_of, has_no_end, IsEnded}
 use Rattle.lines.proofs.LineLemmas.{lines_of-front}
 use Rattle.lines.proofs.TakenLemmas.{nil-front, ended-before}
 use Rattle.bloom_engine.specs.Lines.{line_of, longest_line, number_of, is_number, value_of, command_with_number}
-use Rattle.bloom_engine.specs.Reading.{NextCommand}
-use Rattle.bloom_engine.specs.Served.{IsReadUpTo}
 use Rattle.bloom_engine.proofs.TakenLemmas.{TakesGood}
 
 -- no line is good that is longer than the longest

@@ -1,20 +1,13 @@
 -- Lines carried out, one after the other.
 use Rattle.std.proofs.Common.{◌≡◌, ℕ, ◌*◌, List, [], ◌∷◌, ◌++◌, length, Bool, Option, refl, sym, ◌∙◌, ap, append_assoc, append-nil, subst}
-use Rattle.std.specs.Io.KnownBytes.{Appends}
+use Rattle.bloom_engine.proofs.Common.{Appends, content, are_in, Filter, JoinedListsLaw, Line, Insert, Contains, Clear, Words, Applied, Carried}
 use Rattle.std.proofs.KnownBytes.{Appends-nil, Appends-trans}
 use Rattle.std.proofs.lemmas.List.Elements.{filter_map-append}
-use Rattle.bloom_parts.specs.Content.{content}
 use Rattle.bloom_parts.specs.Operations as command
 use Rattle.bloom_parts.specs.Operations.{Operation, state_after}
-use Rattle.bloom_parts.specs.Places.{are_in}
-use Rattle.bloom_plain.specs.Filter.{Filter}
-use Rattle.bloom_plain.specs.Laws.{JoinedListsLaw}
 use Rattle.bloom_plain.specs.Replies.{CarriesOut, replies_after}
-use Rattle.bloom_engine.specs.declared.engine.line.Line.{Line}
-use Rattle.bloom_engine.specs.declared.engine.line.Line.TheVariants.{Insert, Contains, Clear, Words}
 use Rattle.bloom_engine.specs.Lines.{operation_of_line, operations}
 use Rattle.bloom_engine.specs.Texts.{reply_text, words_text, words_with_content, words_after, text_after, text_of}
-use Rattle.bloom_engine.specs.Served.{Applied, Carried}
 
 module _ (w k : ℕ) (A : ℕ → Bool) where
   -- the first line's text, and then a text of which two parts are known

@@ -1,20 +1,11 @@
 -- Cases that the facts of this crate share: filters of one word and three hashes, of which hash 1
 -- has the positions 0, 20 and 32, and the line `i 1` that was carried out.
 use Rattle.std.proofs.Common.{◌≡◌, ℕ, false, List, [], ◌∷◌, Some, refl, ◌∙◌, ap, lit<}
-use Rattle.std.specs.Prelude.{codes}
-use Rattle.std.proofs.lemmas.Bool.{both_ways}
+use Rattle.bloom_engine.proofs.Common.{codes, both_ways, content, state_after, positions, are_in, Filter, Line, Insert, operations, Carried}
 use Rattle.bloom_parts.specs.Chain.{chain}
-use Rattle.bloom_parts.specs.Content.{content}
 use Rattle.bloom_parts.specs.Operations as command
-use Rattle.bloom_parts.specs.Operations.{state_after}
-use Rattle.bloom_parts.specs.Places.{positions, are_in}
-use Rattle.bloom_plain.specs.Filter.{Filter}
 use Rattle.bloom_plain.specs.Replies.{CarriesOut, replies}
 use Rattle.bloom_plain.proofs.CaseLemmas.{content-case, content-past, positions-past}
-use Rattle.bloom_engine.specs.declared.engine.line.Line.{Line}
-use Rattle.bloom_engine.specs.declared.engine.line.Line.TheVariants.{Insert}
-use Rattle.bloom_engine.specs.Lines.{operations}
-use Rattle.bloom_engine.specs.Served.{Carried}
 
 -- a filter of one word and three hashes
 abbrev pub one_word : ℕ → Filter (Unit {0})

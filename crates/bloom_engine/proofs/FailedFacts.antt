@@ -1,15 +1,7 @@
 -- What serving promises where a read or a write fails: for each definition that public clauses cite
 -- a case that holds and the nearest that doesn't.
 use Rattle.std.proofs.Common.{◌≡◌, ℕ, List, [], ◌∷◌, ◌++◌, map, Option, Some, refl, ◌∙◌, ap}
-use Rattle.std.specs.Prelude.{codes}
-use Rattle.std.proofs.lemmas.Bool.{both_ways}
-use Rattle.bloom_parts.specs.Content.{content}
-use Rattle.bloom_parts.specs.Operations.{state_after}
-use Rattle.bloom_engine.specs.declared.engine.line.Line.{Line}
-use Rattle.bloom_engine.specs.declared.engine.line.Line.TheVariants.{Insert}
-use Rattle.lines.specs.Lines.{lines_by}
-use Rattle.bloom_engine.specs.Lines.{line_of, number_of, operations}
-use Rattle.bloom_engine.specs.Served.{Applied, AreFirstGood, ServedBefore, ServedSome}
+use Rattle.bloom_engine.proofs.Common.{codes, both_ways, content, state_after, Line, Insert, lines_by, line_of, number_of, operations, Applied, AreFirstGood, ServedBefore, ServedSome}
 use Rattle.bloom_engine.proofs.Cases.{zeros, with_one, carried}
 
 -- where nothing was read no line was carried out

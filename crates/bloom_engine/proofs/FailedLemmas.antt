@@ -1,15 +1,9 @@
 -- From lines taken and carried out to what serving promises where a read or a write fails.
 use Rattle.std.proofs.Common.{◌≡◌, ℕ, List, [], ◌∷◌, ◌++◌, Option}
-use Rattle.std.specs.Io.KnownBytes.{Keeps}
-use Rattle.bloom_plain.specs.Filter.{Filter}
-use Rattle.bloom_plain.specs.Laws.{JoinedListsLaw}
-use Rattle.bloom_engine.specs.declared.engine.line.Line.{Line}
+use Rattle.bloom_engine.proofs.Common.{Keeps, Filter, JoinedListsLaw, Line, Waiting, left_of, NextCommand, Applied, AreFirstGood, ServedBefore, ServedSome}
 use Rattle.bloom_engine.specs.declared.engine.commands.Next.{Next}
 use Rattle.bloom_engine.specs.declared.engine.commands.Next.TheVariants as next
-use Rattle.lines.specs.Reading.{Waiting, left_of}
 use Rattle.lines.proofs.TakenLemmas.{IsReadFrom-taken}
-use Rattle.bloom_engine.specs.Reading.{NextCommand}
-use Rattle.bloom_engine.specs.Served.{Applied, AreFirstGood, ServedBefore, ServedSome}
 use Rattle.bloom_engine.proofs.CarriedLemmas.{Applied-more}
 use Rattle.bloom_engine.proofs.ServedLemmas.{Carried-kept, IsServing}
 use Rattle.bloom_engine.proofs.TakenLemmas.{TakesGood, TakesGood-more}

@@ -1,6 +1,7 @@
 mod BadLineLemmas
 mod CarriedLemmas
 mod Cases
+mod Common
 mod FailedFacts
 mod FailedLemmas
 mod HexLemmas

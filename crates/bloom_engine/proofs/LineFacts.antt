@@ -1,16 +1,11 @@
 -- Lines, texts, arguments and statuses at values from outside: a wrong definition fails here. The
 -- calls on lines tell nothing without `line_of` and `text_of`, which no clause of theirs names.
 use Rattle.std.proofs.Common.{◌≡◌, false, [], ◌∷◌, length, map, replicate, Some, None, refl}
-use Rattle.std.specs.Prelude.{codes}
+use Rattle.bloom_engine.proofs.Common.{codes, content, positions, Insert, Contains, Clear, Words, number_of, line_of, longest_line, hex_text, word_with_bits, words_with_content, text_of}
 use Rattle.bloom_parts.specs.Chain.{chain}
-use Rattle.bloom_parts.specs.Content.{content}
-use Rattle.bloom_parts.specs.Places.{positions}
-use Rattle.bloom_engine.specs.declared.engine.line.Line.TheVariants.{Insert, Contains, Clear, Words}
 use Rattle.bloom_engine.specs.declared.fault.Fault.TheVariants as fault
 use Rattle.bloom_engine.specs.Arguments.{asked_of}
 use Rattle.bloom_engine.specs.Faults.{status_of}
-use Rattle.bloom_engine.specs.Lines.{number_of, line_of, longest_line}
-use Rattle.bloom_engine.specs.Texts.{hex_text, word_with_bits, words_with_content, text_of}
 
 -- the good lines, the greatest number, and the longest line; then an empty line, two spaces, a
 -- space behind, a number after `z`, a letter alone, a capital, a tab, a number too great, a digit

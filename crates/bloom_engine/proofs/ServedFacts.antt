@@ -1,11 +1,7 @@
 -- What serving promises of one and two lines: for each definition that public clauses cite a case
 -- that holds and cases as near as can be that don't.
 use Rattle.std.proofs.Common.{◌≡◌, ℕ, ◌+◌, List, [], ◌∷◌, ◌++◌, inl, inr, length, map, replicate, Option, Some, None, length-append, refl, sym, ◌∙◌, ap, arith}
-use Rattle.std.specs.Prelude.{codes}
-use Rattle.bloom_engine.specs.declared.engine.line.Line.{Line}
-use Rattle.bloom_engine.specs.declared.engine.line.Line.TheVariants.{Insert}
-use Rattle.lines.specs.Lines.{lines_by}
-use Rattle.bloom_engine.specs.Lines.{line_of, number_of}
+use Rattle.bloom_engine.proofs.Common.{codes, Line, Insert, lines_by, line_of, number_of}
 use Rattle.bloom_engine.specs.Served.{AreAllGood, Reaches, IsReadUpTo, ServedAll, ServedUpTo}
 use Rattle.bloom_engine.proofs.Cases.{zeros, with_one, carried, carried-text, carried-bits}
 

@@ -1,11 +1,7 @@
 -- From lines taken and carried out to what serving promises.
 use Rattle.std.proofs.Common.{◌≡◌, ℕ, ◌+◌, ◌^◌, ◌-◌, min, List, [], ◌∷◌, ◌++◌, length, map, Option, Some, None, Result, Err, false, refl, sym, ◌∙◌, ap, length-append, arith}
 use Rattle.std.specs.Prelude.{IfSome}
-use Rattle.std.specs.Io.KnownBytes.{Keeps, Appends, prepend_known}
-use Rattle.std.proofs.lemmas.Bool.{both_ways}
-use Rattle.bloom_plain.specs.Filter.{Filter}
-use Rattle.bloom_plain.specs.Laws.{JoinedListsLaw}
-use Rattle.bloom_engine.specs.declared.engine.line.Line.{Line}
+use Rattle.bloom_engine.proofs.Common.{Keeps, Appends, prepend_known, both_ways, Filter, JoinedListsLaw, Line, line_of, longest_line, NextCommand, AreAllGood, Carried, ServedAll, ServedUpTo}
 use Rattle.bloom_engine.specs.declared.engine.commands.Next.{Next}
 use Rattle.bloom_engine.specs.declared.engine.commands.Next.TheVariants as next
 use Rattle.bloom_engine.specs.declared.fault.Fault.{Fault}
@@ -13,9 +9,6 @@ use Rattle.bloom_engine.specs.declared.fault.Fault.TheVariants as fault
 use Rattle.lines.specs.Reading as reading
 use Rattle.lines.specs.Reading.{Ends, KnowsEnd, Waiting, left_of}
 use Rattle.lines.proofs.TakenLemmas as taken
-use Rattle.bloom_engine.specs.Lines.{line_of, longest_line}
-use Rattle.bloom_engine.specs.Reading.{NextCommand}
-use Rattle.bloom_engine.specs.Served.{AreAllGood, Carried, ServedAll, ServedUpTo}
 use Rattle.bloom_engine.proofs.BadLineLemmas.{upto}
 use Rattle.bloom_engine.proofs.CarriedLemmas.{Carried-nil, Carried-more}
 use Rattle.bloom_engine.proofs.TakenLemmas.{TakesGood, TakesGood-nil, TakesGood-more}

@@ -1,9 +1,7 @@
 -- Good lines taken, one after the other.
 use Rattle.std.proofs.Common.{◌≡◌, ℕ, List, [], ◌∷◌, ◌++◌, map, Option, Some, refl, sym, ◌∙◌, ap}
-use Rattle.std.specs.Io.KnownBytes.{prepend_known}
+use Rattle.bloom_engine.proofs.Common.{prepend_known, Line, line_of}
 use Rattle.std.proofs.lemmas.List.{map-append}
-use Rattle.bloom_engine.specs.declared.engine.line.Line.{Line}
-use Rattle.bloom_engine.specs.Lines.{line_of}
 use Rattle.lines.specs.Reading.{TakesLine}
 use Rattle.lines.proofs.TakenLemmas.{TakesLines, TakesLines-nil, TakesLines-more}
 

@@ -4,9 +4,8 @@ use Rattle.std.specs.Int.{bit_at}
 use Rattle.std.proofs.lemmas.List.{take_more}
 use Rattle.std.proofs.lemmas.Nat.{mod-pow-add}
 use Rattle.std.proofs.lemmas.Nat.Bits.{bit_at-lt}
-use Rattle.bloom_parts.specs.Content.{content}
+use Rattle.bloom_engine.proofs.Common.{content, word_with_bits, words_with_content}
 use Rattle.bloom_parts.proofs.PublishedLemmas.{content-at}
-use Rattle.bloom_engine.specs.Texts.{word_with_bits, words_with_content}
 
 -- a digit of base 2 counts its place or nothing
 digit : (d x : ℕ) → d < 2 → cond (eqb d 1) x 0 ≡ d * x

@@ -1,11 +1,6 @@
 -- What follows where a file isn't refused.
 use Rattle.std.proofs.Common.{◌≡◌, ℕ, ◌*◌, ◌%◌, ◌^◌, ◌<◌, List, [], ◌++◌, length, length-take, length-drop, take, drop, take-append-drop, None, sym, ap, ◌∙◌, arith}
-use Rattle.std.specs.Prelude.{◌⊎◌}
-use Rattle.std.proofs.lemmas.Grind.{common_steps}
-use Rattle.bloom_parts.specs.Sip.{sip, whole_words}
-use Rattle.bloom_files.specs.declared.layout.Layout.{Layout}
-use Rattle.bloom_files.specs.File.{bytes_of}
-use Rattle.bloom_files.specs.FileLayouts.{IsFileIn, layout_refusal, numbers_in, refusal_in, seal_refusal_in, sealed_bytes}
+use Rattle.bloom_files.proofs.Common.{◌⊎◌, common_steps, sip, whole_words, Layout, bytes_of, IsFileIn, layout_refusal, numbers_in, refusal_in, seal_refusal_in, sealed_bytes}
 use Rattle.bloom_files.specs.FileRefusals.{file_size, head_in, head_refusal, number_at, length_refusal}
 use Rattle.bloom_files.proofs.FileLemmas.{good-seal, is-file, neither}
 use Rattle.bloom_files.proofs.NumberLemmas.{length-whole_words}

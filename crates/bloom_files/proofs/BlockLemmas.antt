@@ -1,14 +1,7 @@
 -- Words that are written and read block by block.
 use Rattle.std.proofs.Common.{◌≡◌, ℕ, ◌+◌, ◌*◌, ◌%◌, ◌≤◌, List, [], ◌++◌, length, length-append, take, take_all, Option, Some, None, refl, sym, ap, subst, arith, ◌∙◌, append_assoc, append-nil}
-use Rattle.std.specs.Io.KnownBytes.{Appends, Consumes}
+use Rattle.bloom_files.proofs.Common.{Appends, Consumes, AppendsPart, IsWriting, SipState, Hashed, Takes, whole_words, FileError, Cut, Memory, Input, bytes_of}
 use Rattle.std.proofs.KnownBytes.{Appends-trans, Consumes-nil, Consumes-trans}
-use Rattle.lines.specs.Writing.{AppendsPart}
-use Rattle.lines.proofs.WritingLemmas.{IsWriting}
-use Rattle.bloom_parts.specs.Hashed.{SipState, Hashed, Takes}
-use Rattle.bloom_parts.specs.Sip.{whole_words}
-use Rattle.bloom_files.specs.declared.error.FileError.{FileError}
-use Rattle.bloom_files.specs.declared.error.FileError.TheVariants.{Cut, Memory, Input}
-use Rattle.bloom_files.specs.File.{bytes_of}
 use Rattle.bloom_files.specs.FileReads.{AsksAsGiven, FailsWithin, GivesSome, ReadsWords, StopsWords}
 use Rattle.bloom_files.proofs.NumberLemmas.{bytes_of-append, length-bytes_of, length-whole_words}
 

@@ -2,9 +2,7 @@
 -- those of lines). Each has the key bytes 0 to 15 and 3 hashes, and `crab` and `lobster` were
 -- inserted into its filter, which has one word, or one line of eight.
 use Rattle.std.proofs.Common.{ℕ, List, [], ◌∷◌, ◌++◌}
-use Rattle.bloom_parts.specs.Sip.{start}
-use Rattle.bloom_files.specs.declared.head.Head.{Head}
-use Rattle.bloom_plain.specs.Data.{DefaultFilter}
+use Rattle.bloom_files.proofs.Common.{start, Head, DefaultFilter}
 
 -- the codes of `fbloom` and 0
 abbrev pub name : List ℕ

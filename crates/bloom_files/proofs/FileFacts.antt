@@ -1,12 +1,8 @@
 -- The bytes of a file, and its seal, at values from outside: a wrong constant in a definition fails
 -- here. The files are those of `Cases`; a program in Python made the seals.
 use Rattle.std.proofs.Common.{◌≡◌, ◌^◌, ◌<◌, [], ◌∷◌, refl, arith}
-use Rattle.std.proofs.lemmas.List.Elements.{All-from_recursion}
-use Rattle.bloom_parts.specs.Sip.{sip, start, round, absorb, answer, whole_words, rest}
-use Rattle.bloom_files.specs.declared.head.Head.{Head}
-use Rattle.bloom_files.specs.declared.layout.Layout.TheVariants.{Whole, Lines}
+use Rattle.bloom_files.proofs.Common.{All-from_recursion, sip, start, round, absorb, answer, whole_words, rest, Head, Whole, Lines, numbers_in, right_seal}
 use Rattle.bloom_files.specs.File.{FitsWords, HasOwnKey, bytes_of, head_numbers, head_of, seal_of}
-use Rattle.bloom_files.specs.FileLayouts.{numbers_in, right_seal}
 use Rattle.bloom_files.proofs.Cases.{crabs, filter, head_with, its_head, its_seal, line_head, line_words, low}
 
 -- the lowest byte of a number comes first, and the first number before the second

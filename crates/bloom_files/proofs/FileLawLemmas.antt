@@ -1,23 +1,9 @@
 -- Files of filters read back as these filters.
 use Rattle.std.proofs.Common.{◌≡◌, ℕ, ◌*◌, ◌^◌, ◌<◌, ◌≤◌, List, ◌++◌, length, drop, Some, None, refl, sym, ap, subst, ◌∙◌, arith, inl, inr, lit<}
-use Rattle.std.specs.Prelude.{◌⊎◌, slice_index}
-use Rattle.std.specs.Option.{option_or}
-use Rattle.std.proofs.lemmas.Grind.{common_steps}
-use Rattle.std.proofs.lemmas.List.Elements.{All-from_recursion}
-use Rattle.bloom_parts.specs.Content.{AreWords}
+use Rattle.bloom_files.proofs.Common.{◌⊎◌, slice_index, option_or, common_steps, All-from_recursion, AreWords, sip, whole_words, FileError, Blocked, NotBlocked, Head, Layout, Whole, Lines, DefaultFilter, bytes_of, head_of, AreWhole, IsFileIn, layout_number, layout_refusal, numbers_in, refusal_in, right_seal, sealed_bytes, head_refusal, number_at, wrong_seal}
 use Rattle.bloom_parts.specs.Keys.{HasKey, key_of}
-use Rattle.bloom_parts.specs.Sip.{sip, whole_words}
 use Rattle.bloom_parts.specs.declared.hasher.CloneBuildHasher.{CloneBuildHasher}
 use Rattle.bloom_parts.specs.declared.hasher.sip.RandomDefaultHasher.{RandomDefaultHasher}
-use Rattle.bloom_files.specs.declared.error.FileError.{FileError}
-use Rattle.bloom_files.specs.declared.error.FileError.TheVariants.{Blocked, NotBlocked}
-use Rattle.bloom_files.specs.declared.head.Head.{Head}
-use Rattle.bloom_files.specs.declared.layout.Layout.{Layout}
-use Rattle.bloom_files.specs.declared.layout.Layout.TheVariants.{Whole, Lines}
-use Rattle.bloom_plain.specs.Data.{DefaultFilter}
-use Rattle.bloom_files.specs.File.{bytes_of, head_of}
-use Rattle.bloom_files.specs.FileLayouts.{AreWhole, IsFileIn, layout_number, layout_refusal, numbers_in, refusal_in, right_seal, sealed_bytes}
-use Rattle.bloom_files.specs.FileRefusals.{head_refusal, number_at, wrong_seal}
 use Rattle.bloom_files.specs.FilterFiles.{BlockedRefusedLaw, FileLaw, IsFileOf, NotBlockedRefusedLaw, ReadableLaw, SameFileItemsLaw, placement_in}
 use Rattle.bloom_plain.proofs.DataLemmas.{alike-parts}
 use Rattle.bloom_files.proofs.NumberLemmas.{length-bytes_of, whole_words-alone, whole_words-bytes}

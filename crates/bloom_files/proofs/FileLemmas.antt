@@ -1,20 +1,7 @@
 -- A file that isn't refused is the file of a filter.
 use Rattle.std.proofs.Common.{◌≡◌, ℕ, ◌^◌, ◌<◌, List, [], ◌∷◌, ◌++◌, length, Bool, true, false, cond, Option, Some, None, refl, sym, ap, subst, ◌∙◌, arith, inl, inr}
-use Rattle.std.specs.Prelude.{◌⊎◌, slice_index}
-use Rattle.std.proofs.lemmas.Bool.{le-leb}
-use Rattle.std.proofs.lemmas.Grind.{common_steps}
-use Rattle.std.specs.Option.{option_or}
+use Rattle.bloom_files.proofs.Common.{◌⊎◌, slice_index, le-leb, common_steps, option_or, sip, whole_words, FileError, Head, Layout, Whole, Lines, DefaultFilter, FitsWords, bytes_of, head_of, mark, AreWhole, IsFileIn, file_in, layout_number, layout_refusal, numbers_in, right_seal, sealed_bytes, sealed_file, has_number, head_in, head_refusal, number_at, wrong_seal, IsFileOf}
 use Rattle.bloom_parts.specs.Buffers.{AreBytes}
-use Rattle.bloom_parts.specs.Sip.{sip, whole_words}
-use Rattle.bloom_files.specs.declared.error.FileError.{FileError}
-use Rattle.bloom_files.specs.declared.head.Head.{Head}
-use Rattle.bloom_files.specs.declared.layout.Layout.{Layout}
-use Rattle.bloom_files.specs.declared.layout.Layout.TheVariants.{Whole, Lines}
-use Rattle.bloom_plain.specs.Data.{DefaultFilter}
-use Rattle.bloom_files.specs.File.{FitsWords, bytes_of, head_of, mark}
-use Rattle.bloom_files.specs.FileLayouts.{AreWhole, IsFileIn, file_in, layout_number, layout_refusal, numbers_in, right_seal, sealed_bytes, sealed_file}
-use Rattle.bloom_files.specs.FileRefusals.{has_number, head_in, head_refusal, number_at, wrong_seal}
-use Rattle.bloom_files.specs.FilterFiles.{IsFileOf}
 use Rattle.bloom_plain.specs.Filter.{IsShape}
 use Rattle.bloom_files.proofs.NumberLemmas.{bytes-again, length-whole_words}
 use Rattle.bloom_files.proofs.SealLemmas.{sealed-head}

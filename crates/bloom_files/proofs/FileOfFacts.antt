@@ -1,19 +1,14 @@
 -- The file of a filter, and the laws of files: cases that hold, and the nearest that don't. The
 -- files and their filters are those of `Cases`.
 use Rattle.std.proofs.Common.{◌≡◌, ℕ, ◌^◌, ◌<◌, List, [], ◌∷◌, ◌++◌, length, get_or, true, false, None, Some, refl, sym, ap, subst, ◌∙◌, append-nil, arith, lit<}
-use Rattle.std.proofs.lemmas.List.Elements.{All-from_recursion}
+use Rattle.bloom_files.proofs.Common.{All-from_recursion, sip, start, round, absorb, answer, whole_words, rest, Blocked, NotBlocked, Whole, Lines, HasOwnKey, bytes_of, refusal_in}
 use Rattle.bloom_parts.specs.declared.hasher.CloneBuildHasher.{CloneBuildHasher}
 use Rattle.bloom_parts.specs.declared.hasher.sip.RandomDefaultHasher.{RandomDefaultHasher}
 use Rattle.bloom_parts.specs.Chain.{chain}
 use Rattle.bloom_parts.specs.Content.{content}
 use Rattle.bloom_parts.specs.Places.{are_in}
-use Rattle.bloom_parts.specs.Sip.{sip, start, round, absorb, answer, whole_words, rest}
 use Rattle.bloom_plain.specs.Data.{AnswerAlike, DefaultFilter}
 use Rattle.bloom_blocked.specs.Blocked.{contains_in_line}
-use Rattle.bloom_files.specs.declared.error.FileError.TheVariants.{Blocked, NotBlocked}
-use Rattle.bloom_files.specs.declared.layout.Layout.TheVariants.{Whole, Lines}
-use Rattle.bloom_files.specs.File.{HasOwnKey, bytes_of}
-use Rattle.bloom_files.specs.FileLayouts.{refusal_in}
 use Rattle.bloom_files.specs.FilterFiles.{BlockedRefusedLaw, FileLaw, IsFileOf, NotBlockedRefusedLaw, ReadableLaw, ReadsFile, SameFileItemsLaw, WritesFile, file_of}
 use Rattle.bloom_files.proofs.Cases.{crabs, filter, line_crabs, line_file, line_words, unsealed, worked}
 use Rattle.bloom_files.proofs.LayoutFacts.{differs, is_file-lines, is_file-unsealed, is_file-worked}

@@ -1,12 +1,8 @@
 -- Files of both layouts, at values from outside: cases that hold, and the nearest that don't. The
 -- files are those of `Cases`.
 use Rattle.std.proofs.Common.{◌≡◌, ℕ, List, [], ◌∷◌, ◌++◌, length, get_or, Some, refl, sym, ap, subst, ◌∙◌, append-nil, arith, inl, inr}
-use Rattle.bloom_parts.specs.Sip.{sip, start, round, absorb, answer, whole_words, rest}
+use Rattle.bloom_files.proofs.Common.{sip, start, round, absorb, answer, whole_words, rest, Head, Whole, Lines, bytes_of, AreWhole, IsFileIn, ReadsParts, WritesParts, file_in, sealed_file}
 use Rattle.bloom_plain.specs.Filter.{IsShape}
-use Rattle.bloom_files.specs.declared.head.Head.{Head}
-use Rattle.bloom_files.specs.declared.layout.Layout.TheVariants.{Whole, Lines}
-use Rattle.bloom_files.specs.File.{bytes_of}
-use Rattle.bloom_files.specs.FileLayouts.{AreWhole, IsFileIn, ReadsParts, WritesParts, file_in, sealed_file}
 use Rattle.bloom_files.proofs.Cases.{first, head_with, its_head, its_seal, its_word, key_first, key_last, line_file, line_head, line_words, low, unsealed, worked}
 
 -- eight words are a line, and four or nine are none; any number may be no lines

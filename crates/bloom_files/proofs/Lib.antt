@@ -1,6 +1,7 @@
 mod AcceptedLemmas
 mod BlockLemmas
 mod Cases
+mod Common
 mod FileFacts
 mod FileLawLemmas
 mod FileLemmas

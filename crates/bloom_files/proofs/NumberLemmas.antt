@@ -3,13 +3,9 @@ use Rattle.std.proofs.Common.{◌≡◌, ℕ, zero, suc, ◌+◌, ◌*◌, ◌/�
 use Rattle.std.proofs.lemmas.List.{get_or-map, get_or_past, take_more}
 use Rattle.std.proofs.lemmas.List.Concat.{flat_map-append}
 use Rattle.std.proofs.lemmas.Nat.{le_bytes_8, from_le_bytes-to_le_bytes_8}
-use Rattle.std.specs.Prelude.{map, slice_index}
+use Rattle.bloom_files.proofs.Common.{map, slice_index, w64, to_le_bytes, from_le_bytes, AreWords, whole_words, rest, bytes_of}
 use Rattle.std.specs.Simd.{first_chunks}
-use Rattle.std.specs.Int.{w64, to_le_bytes, from_le_bytes}
 use Rattle.bloom_parts.specs.Buffers.{AreBytes}
-use Rattle.bloom_parts.specs.Content.{AreWords}
-use Rattle.bloom_parts.specs.Sip.{whole_words, rest}
-use Rattle.bloom_files.specs.File.{bytes_of}
 
 -- the numbers of bytes are those of their chunks of eight
 pub whole_words-chunks : (bytes : List ℕ)

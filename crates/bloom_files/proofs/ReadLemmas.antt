@@ -1,18 +1,10 @@
 -- What a file that is read part by part comes to.
 use Rattle.std.proofs.Common.{◌≡◌, ℕ, ◌*◌, ◌^◌, ◌<◌, List, [], ◌++◌, length, length-append, Option, Some, None, refl, sym, ap, subst, ◌∙◌, arith, append_assoc, append-nil, inl, inr}
-use Rattle.std.specs.Prelude.{IfSome}
-use Rattle.std.specs.Option.{option_or}
-use Rattle.std.specs.Io.KnownBytes.{Consumes, IsAtEnd}
+use Rattle.bloom_files.proofs.Common.{IfSome, option_or, Consumes, IsAtEnd, sip, FileError, Cut, TooLong, Memory, Input, Layout, bytes_of, head_in, head_refusal, number_at, wrong_seal}
 use Rattle.std.proofs.KnownBytes.{Consumes-trans, Consumes-whole}
 use Rattle.bloom_parts.specs.Hashed.{SipState, Hashed, Answers}
-use Rattle.bloom_parts.specs.Sip.{sip}
-use Rattle.bloom_files.specs.declared.error.FileError.{FileError}
-use Rattle.bloom_files.specs.declared.error.FileError.TheVariants.{Cut, TooLong, Memory, Input}
-use Rattle.bloom_files.specs.declared.layout.Layout.{Layout}
-use Rattle.bloom_files.specs.File.{bytes_of}
 use Rattle.bloom_files.specs.FileLayouts.{IsReadIn, IsReportedIn, ReadsParts, layout_refusal, numbers_in, refusal_in, sealed_bytes}
 use Rattle.bloom_files.specs.FileReads.{FailsEarly, FailsWithin, ReadsWords, StopsEnd, StopsWords}
-use Rattle.bloom_files.specs.FileRefusals.{head_in, head_refusal, number_at, wrong_seal}
 use Rattle.bloom_files.proofs.FileLemmas.{good-seal, is-file}
 use Rattle.bloom_files.proofs.NumberLemmas.{length-bytes_of}
 use Rattle.bloom_files.proofs.RefusalLemmas.{head_refusal-head, number_at-head, refusal_in-head, refusal_in-size, length_refusal-cut, length_refusal-long}

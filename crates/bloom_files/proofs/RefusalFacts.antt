@@ -1,8 +1,6 @@
 -- Why a file is refused, at the borders of each reason and where two meet.
 use Rattle.std.proofs.Common.{◌≡◌, ℕ, List, [], ◌∷◌, ◌++◌, Some, None, refl}
-use Rattle.bloom_parts.specs.Sip.{sip, start, round, absorb, answer, whole_words, rest}
-use Rattle.bloom_files.specs.declared.error.FileError.TheVariants.{NotAFilter, Version, HashCount, EmptyWords, TooManyWords, Cut, TooLong, Reserved, Blocked, NotBlocked, PartOfALine, Seal}
-use Rattle.bloom_files.specs.declared.layout.Layout.TheVariants.{Whole, Lines}
+use Rattle.bloom_files.proofs.Common.{sip, start, round, absorb, answer, whole_words, rest, NotAFilter, Version, HashCount, EmptyWords, TooManyWords, Cut, TooLong, Reserved, Blocked, NotBlocked, PartOfALine, Seal, Whole, Lines}
 use Rattle.bloom_files.specs.FileLayouts.{head_refusal_in, refusal_in}
 use Rattle.bloom_files.specs.FileRefusals.{head_in, head_refusal, number_at, whole_head_refusal}
 use Rattle.bloom_files.proofs.Cases.{first, head_with, high, its_head, its_seal, its_word, line_body, line_file, line_seal, line_unsealed, low, name, seven, start_with, unsealed, worked}

@@ -1,15 +1,9 @@
 -- How the refusal of a file follows from its head and the bytes behind it.
 use Rattle.std.proofs.Common.{◌≡◌, ℕ, ◌+◌, ◌*◌, ◌%◌, ◌^◌, ◌<◌, List, ◌++◌, length, length-drop, take, drop, Bool, not, ◌&&◌, cond, Option, Some, None, refl, sym, ap, ◌∙◌, arith, length-append}
 use Rattle.std.specs.Prelude.{slice_index, nat_eq, nat_le, nat_lt}
-use Rattle.std.specs.Option.{option_or}
+use Rattle.bloom_files.proofs.Common.{option_or, sip, whole_words, FileError, NotAFilter, Version, HashCount, EmptyWords, TooManyWords, Cut, TooLong, Reserved, Blocked, NotBlocked, PartOfALine, Layout, Whole, Lines, mark}
 use Rattle.std.proofs.lemmas.Bool.{le-leb, lt-ltb, le-ltb}
 use Rattle.std.proofs.lemmas.List.{drop_at, drop-append-le, get_or_append_left, take-append-le}
-use Rattle.bloom_parts.specs.Sip.{sip, whole_words}
-use Rattle.bloom_files.specs.declared.error.FileError.{FileError}
-use Rattle.bloom_files.specs.declared.error.FileError.TheVariants.{NotAFilter, Version, HashCount, EmptyWords, TooManyWords, Cut, TooLong, Reserved, Blocked, NotBlocked, PartOfALine}
-use Rattle.bloom_files.specs.declared.layout.Layout.{Layout}
-use Rattle.bloom_files.specs.declared.layout.Layout.TheVariants.{Whole, Lines}
-use Rattle.bloom_files.specs.File.{mark}
 use Rattle.bloom_files.specs.FileLayouts.{layout_refusal, refusal_in, right_seal_in, seal_refusal_in, sealed_bytes}
 use Rattle.bloom_files.specs.FileRefusals.{has_number, head_refusal, is_hash_count, number_at, length_refusal, wrong_seal}
 use Rattle.bloom_files.proofs.NumberLemmas.{length-whole_words, whole_words-append}

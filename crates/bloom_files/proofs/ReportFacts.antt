@@ -2,9 +2,7 @@
 -- are those of `Cases`.
 use Rattle.std.proofs.Common.{◌≡◌, ◌∙◌, ℕ, List, [], ◌∷◌, ◌++◌, replicate, None, Some, refl, sym, subst, arith, append-nil, inl, inr}
 use Rattle.std.specs.declared.io.ErrorKind.TheVariants as kind
-use Rattle.bloom_parts.specs.Sip.{sip, start, round, absorb, answer, whole_words, rest}
-use Rattle.bloom_files.specs.declared.error.FileError.TheVariants.{NotAFilter, Version, HashCount, EmptyWords, TooManyWords, Cut, TooLong, Reserved, Blocked, NotBlocked, PartOfALine, Seal, Memory, Input}
-use Rattle.bloom_files.specs.declared.layout.Layout.TheVariants.{Whole, Lines}
+use Rattle.bloom_files.proofs.Common.{sip, start, round, absorb, answer, whole_words, rest, NotAFilter, Version, HashCount, EmptyWords, TooManyWords, Cut, TooLong, Reserved, Blocked, NotBlocked, PartOfALine, Seal, Memory, Input, Whole, Lines}
 use Rattle.bloom_files.specs.FileCodes.{file_code_of}
 use Rattle.bloom_files.specs.FileLayouts.{IsReadIn, IsRefusedIn}
 use Rattle.bloom_files.specs.FileReads.{FailsEarly, IsUndecided}

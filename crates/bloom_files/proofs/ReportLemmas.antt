@@ -1,13 +1,7 @@
 -- What is said of a file that isn't read to its end.
 use Rattle.std.proofs.Common.{◌≡◌, ℕ, ◌<◌, ◌≤◌, List, ◌++◌, length, length-take, take, Option, Some, None, ap, ◌∙◌, arith, append-nil, inl, inr}
-use Rattle.std.specs.Prelude.{◌⊎◌, IfSome}
+use Rattle.bloom_files.proofs.Common.{◌⊎◌, IfSome, option_or, Consumes, IsAtEnd, FileError, Layout, layout_refusal, refusal_in, seal_refusal_in, head_refusal, length_refusal}
 use Rattle.std.proofs.lemmas.Bool.{cases_lt}
-use Rattle.std.specs.Option.{option_or}
-use Rattle.std.specs.Io.KnownBytes.{Consumes, IsAtEnd}
-use Rattle.bloom_files.specs.declared.error.FileError.{FileError}
-use Rattle.bloom_files.specs.declared.layout.Layout.{Layout}
-use Rattle.bloom_files.specs.FileLayouts.{layout_refusal, refusal_in, seal_refusal_in}
-use Rattle.bloom_files.specs.FileRefusals.{head_refusal, length_refusal}
 use Rattle.bloom_files.proofs.RefusalLemmas.{head_refusal-head}
 
 -- a head that is refused decides for the file

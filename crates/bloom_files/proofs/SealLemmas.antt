@@ -1,13 +1,6 @@
 -- The seal of a file: what its hasher has taken in.
 use Rattle.std.proofs.Common.{◌≡◌, ℕ, ◌+◌, ◌<◌, List, [], ◌++◌, length, take, drop, subst, sym, ap, ◌∙◌, append_assoc, append-nil}
-use Rattle.std.specs.Prelude.{slice_index}
-use Rattle.std.specs.Int.{w64, to_le_bytes}
-use Rattle.bloom_parts.specs.Hashed.{SipState, Hashed, Takes}
-use Rattle.bloom_files.specs.File.{bytes_of}
-use Rattle.bloom_files.specs.FileLayouts.{numbers_in, sealed_bytes, sealed_numbers}
-use Rattle.bloom_files.specs.declared.head.Head.{Head}
-use Rattle.bloom_files.specs.declared.layout.Layout.{Layout}
-use Rattle.bloom_files.specs.declared.layout.Layout.TheVariants.{Whole, Lines}
+use Rattle.bloom_files.proofs.Common.{slice_index, w64, to_le_bytes, SipState, Hashed, Takes, bytes_of, numbers_in, sealed_bytes, sealed_numbers, Head, Layout, Whole, Lines}
 use Rattle.bloom_files.proofs.NumberLemmas.{bytes_of-next}
 
 -- what a seal covers of a head has the bytes of some of its numbers

@@ -2,17 +2,11 @@
 -- hashes, since 64 times the logarithm of 2 is 44.4. With two hashes, hash 1 has the positions 0
 -- and 20 among 64, so that the word 1048577 has it.
 use Rattle.std.proofs.Common.{◌<◌, ◌*◌, ◌^◌, ◌≤◌, ℕ, false, ◌||◌, List, [], ◌∷◌, refl, ap, ◌∙◌, arith, lit<, lit≤}
-use Rattle.bloom_parts.specs.Chain.{chain}
-use Rattle.bloom_parts.specs.Content.{content}
-use Rattle.bloom_parts.specs.Places.{positions, are_in}
+use Rattle.bloom_growing.proofs.Common.{chain, content, positions, are_in, Rate, Setup, setup_of, Growing, IsNumber, Plain, Rotating}
 use Rattle.bloom_parts.specs.Roots.{IsRoot}
 use Rattle.bloom_parts.specs.Sizing.{IsHalvings}
-use Rattle.bloom_parts.specs.declared.math.rate.Rate.{Rate}
 use Rattle.bloom_plain.specs.Filter.{Filter, Inserts}
 use Rattle.bloom_plain.proofs.CaseLemmas.{content-case, content-past, positions-past}
-use Rattle.bloom_growing.specs.Growing.{Setup, setup_of, Growing, IsNumber}
-use Rattle.bloom_growing.specs.Kinds.{Plain}
-use Rattle.bloom_growing.specs.Rotating.{Rotating}
 
 -- the rate num / den
 abbrev pub rate : (num den : ℕ) → 0 < num → 0 < den → Rate

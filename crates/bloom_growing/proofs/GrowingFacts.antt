@@ -1,15 +1,10 @@
 -- Filters that grow: of each definition cases that hold, and the nearest that don't.
 use Rattle.std.proofs.Common.{◌≡◌, ◌<◌, ℕ, true, false, [], ◌∷◌, length, Option, Some, None, refl, ◌∙◌, ap, arith, lit<, lit≤}
-use Rattle.bloom_parts.specs.Chain.{chain}
-use Rattle.bloom_parts.specs.Content.{content}
-use Rattle.bloom_parts.specs.Places.{are_in}
+use Rattle.bloom_growing.proofs.Common.{chain, content, are_in, Memory, Rate, Plain}
 use Rattle.bloom_parts.specs.declared.error.FilterError.{FilterError}
-use Rattle.bloom_parts.specs.declared.error.FilterError.TheVariants.{Memory}
-use Rattle.bloom_parts.specs.declared.math.rate.Rate.{Rate}
 use Rattle.bloom_growing.specs.Growing.{Setup, setup_of, Growing, newest_room, has, IsGrown}
 use Rattle.bloom_growing.specs.GrowingInserts.{IsBegun, Accepts, of_builders, RefusesNumber, RefusesInsert}
 use Rattle.bloom_growing.specs.GrowingLaws.{AcceptsAll, sum_of_rates, RatesBelowLaw}
-use Rattle.bloom_growing.specs.Kinds.{Plain}
 use Rattle.bloom_growing.specs.declared.growing.error.GrowingError.TheVariants.{RateOverflow, TooManyItems, Filter}
 use Rattle.bloom_growing.proofs.Cases.{rate, four, halvings-none, setup, for_one, number-first, with_one, with_five, with_none, inserts-one, grown}
 use Rattle.bloom_growing.proofs.GrowingLemmas.{took-none}

@@ -1,16 +1,10 @@
 -- What a filter that grows keeps through its calls.
 use Rattle.std.proofs.Common.{◌≡◌, ℕ, zero, suc, ◌+◌, ◌*◌, ◌^◌, ◌<◌, ◌≤◌, false, List, [], ◌∷◌, ◌++◌, length, Option, Some, None, inl, inr, refl, sym, ◌∙◌, ap, subst, arith, lit≤, length-append}
-use Rattle.std.specs.Prelude.{MatchOption}
+use Rattle.bloom_growing.proofs.Common.{MatchOption, cases_lt, one-le-pow, Rate, num_of, den_of, Filter, Kind, InsertsIn, IsMadeIn}
 use Rattle.std.specs.Option.{SomeIff}
-use Rattle.std.proofs.lemmas.Bool.{cases_lt}
-use Rattle.std.proofs.Math.Nat.{one-le-pow}
 use Rattle.bloom_parts.specs.declared.hasher.CloneBuildHasher.{CloneBuildHasher}
 use Rattle.bloom_parts.specs.declared.hasher.sip.RandomDefaultHasher.{RandomDefaultHasher}
-use Rattle.bloom_parts.specs.declared.math.rate.Rate.{Rate}
-use Rattle.bloom_parts.specs.Rates.{num_of, den_of}
-use Rattle.bloom_plain.specs.Filter.{Filter}
 use Rattle.bloom_growing.specs.Growing.{Setup, Growing, room_at, den_at, newest_room, rate_start, IsNumber, IsNext, IsMadeAs, any_contains, Took, AreFull, IsKeyed, IsSound}
-use Rattle.bloom_growing.specs.Kinds.{Kind, InsertsIn, IsMadeIn}
 use Rattle.bloom_growing.proofs.GrowingLemmas.{room_at-next, den_at-next, took-none, took-next, are_full-next}
 
 -- the builders made a filter for the rate and the room of its number

@@ -2,12 +2,8 @@
 use Rattle.std.proofs.Common.{◌≡◌, ℕ, zero, suc, ◌+◌, ◌*◌, ◌^◌, ◌<◌, Bool, true, false, List, [], ◌∷◌, ◌++◌, refl, sym, ◌∙◌, ap, subst, arith, add-one, inl, inr}
 use Rattle.std.proofs.Math.Nat.{mul-pos, pow-suc, lt_of_mul-lt-mul_right}
 use Rattle.std.proofs.lemmas.Bool.{or_cases, or_left, or_right, cases_lt}
-use Rattle.bloom_parts.specs.Rates.{num_of, den_of}
-use Rattle.bloom_parts.specs.declared.math.rate.Rate.{Rate}
-use Rattle.bloom_growing.specs.Growing.{Growing, any_contains, has, den_at, newest_room}
-use Rattle.bloom_growing.specs.GrowingInserts.{BeginsNext, Adds, Accepts}
+use Rattle.bloom_growing.proofs.Common.{num_of, den_of, Rate, Growing, any_contains, has, den_at, newest_room, BeginsNext, Adds, Accepts, Kind, contains_in}
 use Rattle.bloom_growing.specs.GrowingLaws.{AcceptsAll, sum_of_rates, RatesBelowLaw}
-use Rattle.bloom_growing.specs.Kinds.{Kind, contains_in}
 use Rattle.bloom_growing.proofs.GrowingLemmas.{has-or}
 use Rattle.bloom_growing.proofs.GrowingKeptLemmas.{some_room_at}
 use Rattle.bloom_growing.proofs.KindLemmas.{insert-found, insert-keeps}

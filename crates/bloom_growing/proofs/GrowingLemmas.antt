@@ -1,14 +1,8 @@
 -- Filters that grow: what they contain, and the rule that they keep.
 use Rattle.std.proofs.Common.{◌≡◌, ℕ, ◌+◌, ◌*◌, false, ◌||◌, List, [], ◌∷◌, ◌++◌, length, refl, sym, ◌∙◌, ap, subst, arith, add-one, append-nil, append_assoc, length-append}
 use Rattle.std.proofs.Math.Bool.{or-false}
-use Rattle.std.proofs.Math.Nat.{pow-suc}
+use Rattle.bloom_growing.proofs.Common.{pow-suc, list_any-append, den_of, Rate, Filter, Setup, Growing, room_at, den_at, rate_start, IsNumber, any_contains, has, Took, AreFull, Kind, contains_in, InsertsIn}
 use Rattle.std.proofs.lemmas.List.Elements.{All-append, All-cons, All-nil}
-use Rattle.std.proofs.lemmas.List.Folds.{list_any-append}
-use Rattle.bloom_parts.specs.Rates.{den_of}
-use Rattle.bloom_parts.specs.declared.math.rate.Rate.{Rate}
-use Rattle.bloom_plain.specs.Filter.{Filter}
-use Rattle.bloom_growing.specs.Growing.{Setup, Growing, room_at, den_at, rate_start, IsNumber, any_contains, has, Took, AreFull}
-use Rattle.bloom_growing.specs.Kinds.{Kind, contains_in, InsertsIn}
 use Rattle.bloom_growing.proofs.KindLemmas.{new-next, made-zeros, made-hashes, zeros-contain}
 
 -- the next filter has twice the room

@@ -1,8 +1,7 @@
 -- Rates of several filters together: of each definition cases that hold, and the nearest that
 -- don't.
 use Rattle.std.proofs.Common.{◌≡◌, ℕ, [], ◌∷◌, refl, arith, ◌≤◌, ◌^◌, lit≤}
-use Rattle.bloom_parts.specs.declared.math.bracket.Bracket.{Bracket}
-use Rattle.bloom_growing.specs.GrowingRates.{Part, part_now, part_after, BoundsAny, parts_now, parts_grown}
+use Rattle.bloom_growing.proofs.Common.{Bracket, Part, part_now, part_after, BoundsAny, parts_now, parts_grown}
 use Rattle.bloom_growing.proofs.Cases.{grown, with_one, with_none}
 use Rattle.bloom_growing.proofs.GrowingRateLemmas.{bounds-none}
 

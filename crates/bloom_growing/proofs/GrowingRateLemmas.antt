@@ -3,15 +3,12 @@ use Rattle.std.proofs.Common.{◌≡◌, ℕ, zero, suc, ◌+◌, ◌*◌, ◌^�
 use Rattle.std.proofs.Math.Bool.{or-false}
 use Rattle.std.proofs.Math.Nat.{le_of_mul-le-mul_right, mul-le-mul_left, one-le-pow, pow-le-pow_right}
 use Rattle.std.proofs.Math.Seq.{take-suc}
-use Rattle.std.proofs.lemmas.List.{map-append}
-use Rattle.std.proofs.lemmas.List.Folds.{list_any-append}
+use Rattle.bloom_growing.proofs.Common.{map-append, list_any-append, Bracket, room_at}
 use Rattle.std.proofs.lemmas.List.Sums.{sum_by_push}
-use Rattle.bloom_parts.specs.declared.math.bracket.Bracket.{Bracket}
 use Rattle.bloom_parts.specs.Brackets.{low_of, high_of, Holds, rate_low}
 use Rattle.bloom_parts.specs.Counts.{count_on}
 use Rattle.bloom_parts.specs.FalsePositives.{BoundsEither, HoldsFalsePositives, false_pos_high}
 use Rattle.bloom_plain.specs.Filter.{Filter, HasShape, num_bits_of}
-use Rattle.bloom_growing.specs.Growing.{room_at}
 use Rattle.bloom_growing.specs.GrowingRates.{Part, part_after, AnswerAt, one_answers, greatest, BoundsAny, parts_full}
 use Rattle.bloom_growing.proofs.GrowingLemmas.{room_at-next}
 

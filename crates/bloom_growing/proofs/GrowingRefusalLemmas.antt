@@ -1,14 +1,8 @@
 -- Why the next filter of one that grows is refused.
 use Rattle.std.proofs.Common.{◌≡◌, ℕ, ◌^◌, ◌<◌, ◌≤◌, max, Option, Some, None, refl, ap, subst, arith}
-use Rattle.std.specs.Prelude.{MatchOption}
+use Rattle.bloom_growing.proofs.Common.{MatchOption, Memory, Rate, num_of, den_of, IsNext, room_at, den_at, of_builders, RefusesNumber, Kind, IsSizeIn, size_refusal_in}
 use Rattle.bloom_parts.specs.declared.error.FilterError.{FilterError}
-use Rattle.bloom_parts.specs.declared.error.FilterError.TheVariants.{Memory}
-use Rattle.bloom_parts.specs.declared.math.rate.Rate.{Rate}
-use Rattle.bloom_parts.specs.Rates.{num_of, den_of}
 use Rattle.bloom_plain.specs.Builders.{RefusesAs}
-use Rattle.bloom_growing.specs.Growing.{IsNext, room_at, den_at}
-use Rattle.bloom_growing.specs.GrowingInserts.{of_builders, RefusesNumber}
-use Rattle.bloom_growing.specs.Kinds.{Kind, IsSizeIn, size_refusal_in}
 use Rattle.bloom_growing.specs.declared.growing.error.GrowingError.{GrowingError}
 use Rattle.bloom_growing.specs.declared.growing.error.GrowingError.TheVariants.{RateOverflow, TooManyItems, Filter}
 

@@ -1,9 +1,7 @@
 -- What an insert into a filter that grows does.
 use Rattle.std.proofs.Common.{◌≡◌, ℕ, ◌<◌, ◌≤◌, Bool, true, false, ◌||◌, refl, sym, ◌∙◌, ap, subst, arith}
 use Rattle.std.proofs.lemmas.Bool.{both_ways}
-use Rattle.bloom_growing.specs.Growing.{Growing, newest_room, any_contains, has}
-use Rattle.bloom_growing.specs.GrowingInserts.{BeginsNext, Adds, Accepts}
-use Rattle.bloom_growing.specs.Kinds.{Kind, contains_in}
+use Rattle.bloom_growing.proofs.Common.{Growing, newest_room, any_contains, has, BeginsNext, Adds, Accepts, Kind, contains_in}
 use Rattle.bloom_growing.proofs.GrowingLemmas.{has-or}
 
 module _ {S : Type 0} (kind : Kind) (g : Growing S) (hash : ℕ) where

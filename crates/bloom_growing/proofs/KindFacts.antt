@@ -1,16 +1,10 @@
 -- Filters of both kinds: of each definition cases that hold, and the nearest that don't. In a line
 -- of 512 bits hash 1 has the positions 162 and 13, in a plain filter others.
 use Rattle.std.proofs.Common.{◌≡◌, ◌∙◌, ℕ, true, false, [], ◌∷◌, length, replicate, Some, None, refl, ap, arith, lit≤}
-use Rattle.bloom_parts.specs.Chain.{chain}
-use Rattle.bloom_parts.specs.Content.{content}
-use Rattle.bloom_parts.specs.Places.{positions, are_in}
+use Rattle.bloom_growing.proofs.Common.{chain, content, positions, are_in, RateStart, words_for, Filter, rate_start, Plain, Blocked, contains_in, InsertsIn, IsSizeIn, IsMadeIn, size_refusal_in}
 use Rattle.bloom_parts.specs.Sizing.{IsSizeFor, size_for}
 use Rattle.bloom_parts.specs.declared.error.FilterError.TheVariants.{TooManyWords}
-use Rattle.bloom_plain.specs.Builders.{RateStart, words_for}
-use Rattle.bloom_plain.specs.Filter.{Filter}
 use Rattle.bloom_blocked.specs.BlockedSizing.{bits_in_lines}
-use Rattle.bloom_growing.specs.Growing.{rate_start}
-use Rattle.bloom_growing.specs.Kinds.{Plain, Blocked, contains_in, InsertsIn, IsSizeIn, IsMadeIn, size_refusal_in}
 use Rattle.bloom_growing.proofs.Cases.{two, halvings-none, for_one, with_one, with_none, inserts-one}
 
 -- a filter of one line, which has hash 1 there

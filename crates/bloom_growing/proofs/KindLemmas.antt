@@ -1,15 +1,12 @@
 -- What holds of plain and blocked filters alike.
 use Rattle.std.proofs.Common.{◌≡◌, ℕ, zero, suc, ◌*◌, ◌<◌, ◌≤◌, map, get_or, Bool, true, false, List, [], ◌∷◌, ◌++◌, length, replicate, max, nat_eq, if◌then◌else◌, ◌-◌, ◌^◌, refl, sym, ◌∙◌, ap, subst, arith, lit≤}
-use Rattle.std.proofs.lemmas.Bool.{or_left, or_right}
-use Rattle.bloom_parts.specs.Content.{content, AreWords, EqualWordsLaw}
+use Rattle.bloom_growing.proofs.Common.{or_left, or_right, content, AreWords, EqualWordsLaw, RateStart, words_for, any_contains}
 use Rattle.bloom_parts.specs.Sizing.{hashes_for}
 use Rattle.bloom_parts.proofs.PublishedLemmas.{content-zeros}
-use Rattle.bloom_plain.specs.Builders.{RateStart, words_for}
 use Rattle.bloom_plain.specs.Filter.{Filter, SameShape}
 use Rattle.bloom_plain.proofs.LawLemmas.{IsLawful, anywhere-lawful, contained-insert, contains-none, insert_law, kept_by_insert_law}
 use Rattle.bloom_blocked.specs.BlockedSizing.{line_words_for}
 use Rattle.bloom_blocked.proofs.LawLemmas.{in_lines-lawful}
-use Rattle.bloom_growing.specs.Growing.{any_contains}
 use Rattle.bloom_growing.specs.Kinds.{Kind, Plain, Blocked, placement_of, contains_in, InsertsIn, InsertsNew, IsMadeIn}
 
 -- both kinds are lawful

@@ -1,4 +1,5 @@
 mod Cases
+mod Common
 mod DifferentLemmas
 mod GrowingFacts
 mod GrowingKeptLemmas

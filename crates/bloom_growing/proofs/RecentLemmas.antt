@@ -1,11 +1,9 @@
 -- What a filter that rotates still contains of the hashes that came.
 use Rattle.std.proofs.Common.{◌≡◌, ◌⊎◌, inl, inr, ◌+◌, ◌<◌, ◌≤◌, ℕ, Bool, true, false, ◌||◌, List, [], ◌∷◌, ◌++◌, length, nat_eq, refl, sym, ◌∙◌, ap, subst, length-append, arith}
-use Rattle.std.proofs.lemmas.Bool.{cases_lt, or_left, or_right, true≢false}
+use Rattle.bloom_growing.proofs.Common.{cases_lt, or_left, or_right, true≢false, Filter, Kind, contains_in, InsertsIn}
 use Rattle.std.proofs.lemmas.List.{append-nil, append_assoc}
 use Rattle.std.specs.Cmp.{unsigned_Decides}
 use Rattle.std.specs.Set.{distinct_count, is_member}
-use Rattle.bloom_plain.specs.Filter.{Filter}
-use Rattle.bloom_growing.specs.Kinds.{Kind, contains_in, InsertsIn}
 use Rattle.bloom_growing.specs.Rotating.{Rotating, either_contains, Fills, Turns, Receives, ReceivesAll}
 use Rattle.bloom_growing.proofs.DifferentLemmas.{cut-last, cons-out, suffix, one-more, some-more, last-at}
 use Rattle.bloom_growing.proofs.KindLemmas.{insert-found, insert-keeps}

@@ -1,12 +1,7 @@
 -- Filters that rotate: of each definition cases that hold, and the nearest that don't.
 use Rattle.std.proofs.Common.{◌≡◌, true, false, [], ◌∷◌, refl, ap, arith, lit<, lit≤}
-use Rattle.bloom_parts.specs.Chain.{chain}
-use Rattle.bloom_parts.specs.Content.{content}
-use Rattle.bloom_parts.specs.Places.{are_in}
-use Rattle.bloom_plain.specs.Filter.{Clears}
+use Rattle.bloom_growing.proofs.Common.{chain, content, are_in, Clears, part_now, part_after, Plain}
 use Rattle.bloom_plain.proofs.CaseLemmas.{content-case}
-use Rattle.bloom_growing.specs.GrowingRates.{part_now, part_after}
-use Rattle.bloom_growing.specs.Kinds.{Plain}
 use Rattle.bloom_growing.specs.Rotating.{either_contains, IsRotating, IsUnused, Receives, ReceivesAll, both_now, both_taken}
 use Rattle.bloom_growing.proofs.Cases.{setup, for_one, number-first, with_one, with_five, with_none, inserts-one, rotating}
 use Rattle.bloom_growing.proofs.RotatingLemmas.{rotating-none}

@@ -2,15 +2,10 @@
 use Rattle.std.proofs.Common.{◌≡◌, ℕ, ◌+◌, ◌^◌, ◌<◌, ◌≤◌, Bool, true, false, [], ◌∷◌, nat_eq, if◌then◌else◌, refl, sym, ◌∙◌, ap, subst, arith, lit<}
 use Rattle.std.proofs.lemmas.List.Elements.{All-replicate}
 use Rattle.std.specs.Cmp.{unsigned_Decides}
-use Rattle.bloom_parts.specs.declared.math.bracket.Bracket.{Bracket}
+use Rattle.bloom_growing.proofs.Common.{Bracket, content, AreWords, EqualWordsLaw, Filter, Clears, Setup, IsNumber, Took, rate_start, room_at, Part, BoundsAny, Kind, InsertsIn}
 use Rattle.bloom_parts.specs.Brackets.{low_of, high_of, Holds}
-use Rattle.bloom_parts.specs.Content.{content, AreWords, EqualWordsLaw}
 use Rattle.bloom_parts.specs.FalsePositives.{BoundsEither}
 use Rattle.bloom_parts.proofs.PublishedLemmas.{content-zeros}
-use Rattle.bloom_plain.specs.Filter.{Filter, Clears}
-use Rattle.bloom_growing.specs.Growing.{Setup, IsNumber, Took, rate_start, room_at}
-use Rattle.bloom_growing.specs.GrowingRates.{Part, BoundsAny}
-use Rattle.bloom_growing.specs.Kinds.{Kind, InsertsIn}
 use Rattle.bloom_growing.specs.Rotating.{Rotating, older_taken, IsRotating}
 use Rattle.bloom_growing.proofs.GrowingLemmas.{took-none, took-next}
 use Rattle.bloom_growing.proofs.GrowingRateLemmas.{bounds-none, bounds-push}

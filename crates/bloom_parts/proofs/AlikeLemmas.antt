@@ -1,12 +1,8 @@
 -- The bounds of a part of all items.
 use Rattle.std.proofs.Common.{◌≡◌, ◌⊎◌, ℕ, ◌*◌, ◌/◌, ◌^◌, ◌≤◌, min, Option, None, Some, IfSome, refl, arith, inl, inr}
-use Rattle.std.specs.Int.{div_ceil}
+use Rattle.bloom_parts.proofs.Common.{div_ceil, div-mul-le_self, le_of_mul-le-mul_right, cases_lt, div_ceil_times, mul-le}
 use Rattle.std.specs.Option.{ForSome}
-use Rattle.std.proofs.Math.Nat.{div-mul-le_self, le_of_mul-le-mul_right}
-use Rattle.std.proofs.lemmas.Bool.{cases_lt}
 use Rattle.std.proofs.lemmas.Bool.Decides.{eqb_tells}
-use Rattle.std.proofs.lemmas.Grind.{div_ceil_times}
-use Rattle.std.proofs.lemmas.Nat.{mul-le}
 use Rattle.bloom_parts.specs.Alike.{part_low, part_high}
 
 -- the lower bound holds: m items are in the part, no fewer than `part`, of n in all, no more than

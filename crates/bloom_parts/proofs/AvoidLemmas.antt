@@ -2,8 +2,7 @@
 -- lists of draws that avoid it, the share that answers the query with true is at least that of all.
 use Rattle.std.proofs.Common.{◌≡◌, ℕ, zero, suc, ◌+◌, ◌*◌, ◌^◌, ◌<◌, ◌≤◌, Bool, true, false, ◌||◌, ◌&&◌, eqb, if◌then◌else◌, List, [], ◌∷◌, ◌++◌, refl, ap, ap₂, sym, arith}
 use Rattle.std.proofs.lemmas.Bool.{ne_eqb, eqb-false, and_parts, and_from, or_parts, or_right}
-use Rattle.std.proofs.Math.Nat.{mul-le-mul_left, pow-suc, pow-zero}
-use Rattle.bloom_parts.specs.Draws.{sum_below, sum_draws, is_drawn, all_in, one_if}
+use Rattle.bloom_parts.proofs.Common.{mul-le-mul_left, pow-suc, pow-zero, sum_below, sum_draws, is_drawn, all_in, one_if}
 use Rattle.bloom_parts.proofs.DrawLemmas.{draws-le}
 use Rattle.bloom_parts.proofs.MeanLemmas.{avoiding, avoiding-next}
 use Rattle.bloom_parts.proofs.SumLemmas.{below-scale, below-le, below-split, below-others}

@@ -1,12 +1,9 @@
 -- Brackets of densities and of rates at values from outside: for each definition that public
 -- clauses cite a case that holds and cases as near as can be that don't.
 use Rattle.std.proofs.Common.{◌≡◌, ◌+◌, ◌-◌, ◌^◌, refl, arith, lit<, lit≤}
-use Rattle.bloom_parts.specs.declared.math.bracket.Bracket.{Bracket}
+use Rattle.bloom_parts.proofs.Common.{Bracket, count_on, sum_below, sum_draws, is_drawn, all_in, rounded_power, lower_power_of, upper_power_of}
 use Rattle.bloom_parts.specs.Brackets.{low_of, high_of, width_of, Holds, HoldsDensity, HoldsRate, density_low, density_high, rate_low, rate_high}
-use Rattle.bloom_parts.specs.Counts.{count_on}
-use Rattle.bloom_parts.specs.Draws.{sum_below, sum_draws, is_drawn, all_in}
 use Rattle.bloom_parts.specs.FalsePositives.{HoldsFalsePositives, HoldsPositives, false_pos_high, false_pos_width, IsCapacity, positives_low, positives_high, BoundsPositives, HoldsEither, BoundsEither}
-use Rattle.bloom_parts.specs.Powers.{rounded_power, lower_power_of, upper_power_of}
 use Rattle.bloom_parts.proofs.Cases.{only, between, exactly, third}
 use Rattle.bloom_parts.proofs.RateBoundLemmas.{either-between, positives-between}
 

@@ -1,12 +1,7 @@
 -- Brackets of the density and of its powers.
 use Rattle.std.proofs.Common.{◌≡◌, ℕ, zero, suc, ◌+◌, ◌-◌, ◌*◌, ◌/◌, ◌^◌, ◌<◌, ◌≤◌, refl, ap, arith}
-use Rattle.std.specs.Int.{div_ceil}
-use Rattle.std.proofs.Math.Nat.{pow-le-pow_left, div-mul-le_self}
-use Rattle.std.proofs.lemmas.Grind.{div_ceil_times}
+use Rattle.bloom_parts.proofs.Common.{div_ceil, pow-le-pow_left, div-mul-le_self, div_ceil_times, Bracket, lower_power_of, upper_power_of, low_of, high_of, width_of, Holds, HoldsDensity, density_low, density_high}
 use Rattle.std.proofs.lemmas.Nat.{mul-le, div_below}
-use Rattle.bloom_parts.specs.declared.math.bracket.Bracket.{Bracket}
-use Rattle.bloom_parts.specs.Powers.{lower_power_of, upper_power_of}
-use Rattle.bloom_parts.specs.Brackets.{low_of, high_of, width_of, Holds, HoldsDensity, density_low, density_high}
 use Rattle.bloom_parts.proofs.EndLemmas.{lower-holds, upper-holds, ends-apart, ends-ordered, upper-none}
 use Rattle.bloom_parts.proofs.RoundingLemmas.{div_ceil-le}
 use Rattle.bloom_parts.proofs.PowerWidths.{AreApart}

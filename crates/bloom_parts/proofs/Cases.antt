@@ -1,10 +1,7 @@
 -- Cases that the facts of this crate share.
 use Rattle.std.proofs.Common.{ℕ, ◌^◌, ◌≤◌, Bool, eqb, [], ◌∷◌, Option, Some, None, IfSome, subst, lit≤}
-use Rattle.std.proofs.Math.Nat.{le_refl}
+use Rattle.bloom_parts.proofs.Common.{le_refl, SipState, start, Bracket}
 use Rattle.std.proofs.lemmas.Option.{none-some}
-use Rattle.bloom_parts.specs.Hashed.{SipState}
-use Rattle.bloom_parts.specs.Sip.{start}
-use Rattle.bloom_parts.specs.declared.math.bracket.Bracket.{Bracket}
 use Rattle.bloom_parts.specs.declared.math.estimate.Estimate.{Estimate}
 
 -- the set that has one position alone

@@ -1,17 +1,11 @@
 -- The positions of a word are counted by its digits.
 use Rattle.std.proofs.Common.{◌≡◌, ◌<◌, ◌≤◌, ◌+◌, ◌*◌, ◌/◌, ◌%◌, ◌^◌, ℕ, Bool, true, false, zero, suc, eqb, if◌then◌else◌, List, [], ◌∷◌, ◌++◌, length, get_or, count_ones, refl, ◌∙◌, ap, arith}
-use Rattle.std.specs.Int.{bit_at}
-use Rattle.std.specs.Int.Bits.{bit_or}
+use Rattle.bloom_parts.proofs.Common.{bit_at, bit_or, zip2, mod-pow-add, pow_pos, ones_le_self, bit_at-lt, bit_is_on, content, count_on}
 use Rattle.std.specs.Int.Count.{ones_cat, ones_step}
-use Rattle.std.specs.Simd.Lanes.{zip2}
-use Rattle.std.proofs.lemmas.Nat.{mod-pow-add, pow_pos, ones_le_self}
-use Rattle.std.proofs.lemmas.Nat.Bits.{bit_at-lt}
 use Rattle.std.proofs.lemmas.Simd.{get_or-zip2}
 use Rattle.std.proofs.Math.ListN.{get_or-append}
 use Rattle.std.proofs.Math.Nat.{mod-lt, mod-eq_of_lt}
 use Rattle.std.proofs.Math.Seq.{get_or-append_seam}
-use Rattle.bloom_parts.specs.Content.{bit_is_on, content}
-use Rattle.bloom_parts.specs.Counts.{count_on}
 use Rattle.bloom_parts.proofs.WordLemmas.{content-at}
 
 -- no more positions are set than there are

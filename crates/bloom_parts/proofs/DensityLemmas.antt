@@ -1,11 +1,7 @@
 -- How the expected density grows, and what its two ends tell of it.
 use Rattle.std.proofs.Common.{◌≡◌, ℕ, ◌+◌, ◌-◌, ◌*◌, ◌^◌, ◌<◌, ◌≤◌, refl, ap, arith, inl, inr}
 use Rattle.std.proofs.Math.Nat.{one-le-pow, pow-le-pow_left, pow-lt-pow_left, pow-zero}
-use Rattle.std.proofs.lemmas.Bool.{cases_lt}
-use Rattle.std.proofs.lemmas.Nat.{mul-le, pow-add}
-use Rattle.bloom_parts.specs.Brackets.{density_low, density_high}
-use Rattle.bloom_parts.specs.declared.math.bracket.Bracket.{Bracket}
-use Rattle.bloom_parts.specs.Estimates.{DensityLaw}
+use Rattle.bloom_parts.proofs.Common.{cases_lt, mul-le, pow-add, density_low, density_high, Bracket, DensityLaw}
 use Rattle.bloom_parts.proofs.BracketLemmas.{density-ordered, is-density}
 
 -- (x - y) is what is left of x

@@ -1,8 +1,7 @@
 -- Laws of draws at small numbers, counted by a program in another language: of two draws among two
 -- positions, and queries of two positions.
 use Rattle.std.proofs.Common.{◌≡◌, ◌*◌, ◌≤◌, ltb, lit<}
-use Rattle.bloom_parts.specs.Counts.{count_on}
-use Rattle.bloom_parts.specs.Draws.{sum_below, sum_draws, is_drawn, positives, false_positives, ListsLaw, MeanLaw, PositivesLaw, PowersLaw, FormulaLaw, UpperLaw}
+use Rattle.bloom_parts.proofs.Common.{count_on, sum_below, sum_draws, is_drawn, positives, false_positives, ListsLaw, MeanLaw, PositivesLaw, PowersLaw, FormulaLaw, UpperLaw}
 
 -- there are eight lists of three draws
 from_lists : ListsLaw → sum_draws 2 3 (λ _. 1) ≡ 8

@@ -1,7 +1,6 @@
 -- Sums over draws.
 use Rattle.std.proofs.Common.{◌≡◌, ℕ, zero, suc, ◌+◌, ◌*◌, ◌^◌, ◌≤◌, List, [], ◌∷◌, length, refl, ap, ◌∙◌, sym, arith}
-use Rattle.std.proofs.Math.Nat.{pow-zero, pow-suc}
-use Rattle.bloom_parts.specs.Draws.{sum_below, sum_draws}
+use Rattle.bloom_parts.proofs.Common.{pow-zero, pow-suc, sum_below, sum_draws}
 use Rattle.bloom_parts.proofs.SumLemmas.{below-add, below-scale, below-const, below-le, below-same}
 
 -- a sum is monotone

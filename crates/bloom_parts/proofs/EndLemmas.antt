@@ -1,8 +1,6 @@
 -- The two powers that the ends of a bracket are made of, in units of 2^-63.
 use Rattle.std.proofs.Common.{◌≡◌, ◌⊎◌, ℕ, zero, suc, ◌+◌, ◌*◌, ◌^◌, ◌<◌, ◌≤◌, refl, ◌∙◌, arith, inl, inr, lit<, lit≤}
-use Rattle.std.proofs.Math.Nat.{le_of_mul-le-mul_right, le_trans, one-le-pow, pow-suc}
-use Rattle.std.proofs.lemmas.Nat.{mul-le}
-use Rattle.bloom_parts.specs.Powers.{down_of, up_of, lower_power_of, upper_power_of}
+use Rattle.bloom_parts.proofs.Common.{le_of_mul-le-mul_right, le_trans, one-le-pow, pow-suc, mul-le, down_of, up_of, lower_power_of, upper_power_of}
 use Rattle.bloom_parts.proofs.PowerBounds.{power-bound, product-below, product-above}
 use Rattle.bloom_parts.proofs.PowerWidths.{Rounds, AreApart, power-apart}
 

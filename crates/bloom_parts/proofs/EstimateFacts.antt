@@ -2,11 +2,9 @@
 -- item, and 127 / 64 after two. For each definition that public clauses cite a case that holds, and
 -- cases as near as can be that don't.
 use Rattle.std.proofs.Common.{◌≡◌, ◌-◌, ◌*◌, ◌^◌, ◌<◌, ℕ, None, Some, refl, sym, ◌∙◌, ap, arith, unwrap_or, lit<, lit≤}
-use Rattle.std.proofs.Math.Nat.{le_refl}
+use Rattle.bloom_parts.proofs.Common.{le_refl, IsEstimate, IsTight, IsNear, EstimatesItems, DensityLaw, least_of, most_of, rounded_power}
 use Rattle.std.proofs.lemmas.Option.{none-some}
 use Rattle.bloom_parts.specs.Alike.{HoldsItems, HoldsCommon, HoldsPart, IsCommon, IsPartOf, EstimatesEach, EstimatesCommon, EstimatesLikeness, common_least, part_low}
-use Rattle.bloom_parts.specs.Estimates.{IsEstimate, IsTight, IsNear, EstimatesItems, DensityLaw, least_of, most_of}
-use Rattle.bloom_parts.specs.Powers.{rounded_power}
 use Rattle.bloom_parts.proofs.Cases.{between, exactly, third, from_to, just, from}
 use Rattle.bloom_parts.proofs.EstimateLemmas.{is-estimate}
 

@@ -1,9 +1,6 @@
 -- What the two ends of the expected density tell of a number of items.
 use Rattle.std.proofs.Common.{◌≡◌, ℕ, ◌+◌, ◌-◌, ◌*◌, ◌^◌, ◌<◌, ◌≤◌, Option, None, Some, IfSome, refl, arith, inl, inr, lit<}
-use Rattle.std.proofs.Math.Nat.{le_of_mul-le-mul_right, lt_of_mul-lt-mul_right, one-le-pow, pow-le-pow_left}
-use Rattle.std.proofs.lemmas.Bool.{cases_lt}
-use Rattle.std.proofs.lemmas.Nat.{mul-le}
-use Rattle.bloom_parts.specs.Brackets.{density_low, density_high}
+use Rattle.bloom_parts.proofs.Common.{le_of_mul-le-mul_right, lt_of_mul-lt-mul_right, one-le-pow, pow-le-pow_left, cases_lt, mul-le, density_low, density_high}
 use Rattle.bloom_parts.specs.Estimates.{IsAtMost, IsAtLeast, IsBelow, IsAbove, IsEstimate}
 use Rattle.bloom_parts.proofs.BracketLemmas.{sets-fit}
 use Rattle.bloom_parts.proofs.DensityLemmas.{IsEnds, density-ends, density_law}

@@ -1,10 +1,6 @@
 -- What a hasher is after bytes that don't go past the end of the word begun.
 use Rattle.std.proofs.Common.{◌≡◌, ◌≢◌, ℕ, ◌+◌, ◌%◌, ◌*◌, ◌^◌, ◌<◌, ◌≤◌, ◌++◌, List, [], ◌∷◌, length, take, get_or, bit_or, arith, ap, sym, ◌∙◌, take_all, length-append}
-use Rattle.std.proofs.lemmas.List.{append-nil}
-use Rattle.std.specs.Int.{w64, from_le_bytes, to_le_bytes}
-use Rattle.bloom_parts.specs.Buffers.{AreBytes, held_in}
-use Rattle.bloom_parts.specs.Hashed.{SipState, write}
-use Rattle.bloom_parts.specs.Sip.{Words, absorb}
+use Rattle.bloom_parts.proofs.Common.{append-nil, w64, from_le_bytes, to_le_bytes, AreBytes, held_in, SipState, write, Words, absorb}
 use Rattle.bloom_parts.proofs.BufferLemmas.{Holds, Stores, stores, next-byte, AreBytes-append}
 use Rattle.bloom_parts.proofs.HashedLemmas.{write-few, write-full}
 

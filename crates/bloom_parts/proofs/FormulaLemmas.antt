@@ -1,11 +1,7 @@
 -- The classical formula is at most the rate, by Chebyshev's sum inequality for powers of the number
 -- of positions that were drawn.
 use Rattle.std.proofs.Common.{◌≡◌, ℕ, zero, suc, ◌+◌, ◌-◌, ◌*◌, ◌^◌, ◌≤◌, List, ap, ◌∙◌, sym, arith, inl, inr}
-use Rattle.std.proofs.lemmas.Bool.{cases_lt}
-use Rattle.std.proofs.lemmas.Nat.{mul-pow, pow-add}
-use Rattle.std.proofs.Math.Nat.{mul-le-mul_left, mul-le-mul_right, pow-le-pow_left, pow-suc, pow-zero}
-use Rattle.bloom_parts.specs.Counts.{count_on}
-use Rattle.bloom_parts.specs.Draws.{sum_draws, is_drawn, drawn_lists, false_positives, FormulaLaw}
+use Rattle.bloom_parts.proofs.Common.{cases_lt, mul-pow, pow-add, mul-le-mul_left, mul-le-mul_right, pow-le-pow_left, pow-suc, pow-zero, count_on, sum_draws, is_drawn, drawn_lists, false_positives, FormulaLaw}
 use Rattle.bloom_parts.proofs.DrawLemmas.{draws-le, draws-same, draws-add, draws-scale, draws-all}
 use Rattle.bloom_parts.proofs.MeanLemmas.{mean-suc, powers_law}
 

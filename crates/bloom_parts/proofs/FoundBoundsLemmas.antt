@@ -1,7 +1,6 @@
 -- What two searches give: the bounds of an estimate.
 use Rattle.std.proofs.Common.{◌≡◌, ℕ, ◌+◌, ◌-◌, ◌*◌, ◌^◌, ◌<◌, ◌≤◌, ◌∙◌, Option, None, Some, IfSome, sym, subst, arith}
-use Rattle.bloom_parts.specs.Brackets.{density_low, density_high}
-use Rattle.bloom_parts.specs.Estimates.{EstimatesItems, IsEstimate, IsNear, IsTight, least_of, most_of}
+use Rattle.bloom_parts.proofs.Common.{density_low, density_high, EstimatesItems, IsEstimate, IsNear, IsTight, least_of, most_of}
 use Rattle.bloom_parts.specs.declared.math.estimate.Estimate.{Estimate}
 use Rattle.bloom_parts.proofs.EstimateLemmas.{is-estimate, bounds-ordered, all-on, ends-of}
 use Rattle.bloom_parts.proofs.NearLemmas.{is-near}

@@ -1,10 +1,7 @@
 -- Halvings: which are enough, and which are the least.
 use Rattle.std.proofs.Common.{◌≡◌, ◌↔◌, ℕ, suc, ◌+◌, ◌-◌, ◌*◌, ◌/◌, ◌%◌, ◌^◌, ◌<◌, ◌≤◌, inl, inr, refl, ap, arith, subst, sym, ◌∙◌, lit<}
-use Rattle.std.proofs.Math.Nat.{le_of_mul-le-mul_right, pow-le-pow_left, pow-le-pow_right, two-pow-succ, pow-zero, pow-suc}
+use Rattle.bloom_parts.proofs.Common.{le_of_mul-le-mul_right, pow-le-pow_left, pow-le-pow_right, two-pow-succ, pow-zero, pow-suc, cases_lt, IsRoot, IsEnough, IsHalvings, CoverLaw, NoneLaw, MostLaw, OneSizeLaw}
 use Rattle.std.proofs.lemmas.Nat.{mul-le, pow-add, mul-pow, shl_whole}
-use Rattle.std.proofs.lemmas.Bool.{cases_lt}
-use Rattle.bloom_parts.specs.Roots.{IsRoot}
-use Rattle.bloom_parts.specs.Sizing.{IsEnough, IsHalvings, CoverLaw, NoneLaw, MostLaw, OneSizeLaw}
 use Rattle.bloom_parts.proofs.PowerBounds.{pow-pow}
 use Rattle.bloom_parts.proofs.RootLemmas.{root-zero, root-least, root-below, root-mono, one_root}
 

@@ -1,12 +1,7 @@
 -- A hasher, its key and its bytes: more bytes, and the answer.
 use Rattle.std.proofs.Common.{◌≡◌, ℕ, ◌+◌, ◌%◌, ◌<◌, ◌*◌, ◌^◌, List, [], ◌∷◌, ◌++◌, length, get_or, fold, refl, sym, ◌∙◌, ap, subst, arith, append_assoc, length-append}
-use Rattle.std.proofs.lemmas.List.{append-nil}
+use Rattle.bloom_parts.proofs.Common.{append-nil, map, concat, w64, from_le_bytes, start, absorb, answer, whole_words, rest, last_word, sip, SipState, write, finish, Hashed, Takes, Answers}
 use Rattle.std.proofs.lemmas.List.Sums.{fold-append}
-use Rattle.std.specs.Prelude.{map}
-use Rattle.std.specs.List.{concat}
-use Rattle.std.specs.Int.{w64, from_le_bytes}
-use Rattle.bloom_parts.specs.Sip.{start, absorb, answer, whole_words, rest, last_word, sip}
-use Rattle.bloom_parts.specs.Hashed.{SipState, write, finish, Hashed, Takes, Answers}
 use Rattle.bloom_parts.specs.Laws.{TakesEach, HashesPieces, CuttingLaw, JoiningLaw}
 use Rattle.bloom_parts.proofs.SipLemmas.{AreEights, IsShort, short, Continues, continues, whole_words-concat, length-concat, length-rest, empty}
 

@@ -4,8 +4,7 @@
 use Rattle.std.proofs.Common.{◌≡◌, ℕ, zero, suc, List, [], ◌∷◌, fold, length, slice_index, refl, ap, arith, lit<}
 use Rattle.bloom_parts.specs.declared.hasher.CloneBuildHasher.{CloneBuildHasher}
 use Rattle.bloom_parts.specs.declared.hasher.sip.RandomDefaultHasher.{RandomDefaultHasher}
-use Rattle.bloom_parts.specs.Buffers.{AreBytes, IsKept}
-use Rattle.bloom_parts.specs.Hashed.{SipState, write, finish, Hashed, Takes, Answers}
+use Rattle.bloom_parts.proofs.Common.{AreBytes, IsKept, SipState, write, finish, Hashed, Takes, Answers}
 use Rattle.bloom_parts.specs.HasherWords.{IsHashing}
 use Rattle.bloom_parts.specs.Keys.{HasKey, key_of, key_low, key_high}
 use Rattle.bloom_parts.specs.Laws.{HashesPieces, CuttingLaw, JoiningLaw}

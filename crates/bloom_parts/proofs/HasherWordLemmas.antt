@@ -2,11 +2,8 @@
 use Rattle.std.proofs.Common.{◌≡◌, ℕ, zero, suc, ◌-◌, ◌*◌, ◌%◌, ◌^◌, ◌<◌, List, ◌∷◌, length, take, slice_index_or, bit_and, mod-eq_of_lt, refl, sym, ◌∙◌, ap, arith, lit<, length-take}
 use Rattle.std.proofs.Math.Pow.{pow-lt}
 use Rattle.std.proofs.lemmas.Nat.{and_mask, mod-pow-add}
-use Rattle.std.specs.Int.{w64, from_le_bytes, to_le_bytes}
-use Rattle.bloom_parts.specs.Buffers.{AreBytes, held_in}
-use Rattle.bloom_parts.specs.Hashed.{SipState, Hashed}
+use Rattle.bloom_parts.proofs.Common.{w64, from_le_bytes, to_le_bytes, AreBytes, held_in, SipState, Hashed, rest}
 use Rattle.bloom_parts.specs.HasherWords.{words_after, IsHashing}
-use Rattle.bloom_parts.specs.Sip.{rest}
 use Rattle.bloom_parts.proofs.BufferLemmas.{Stores, stores, AreBytes-take}
 use Rattle.bloom_parts.proofs.SipLemmas.{length-rest}
 

@@ -1,11 +1,7 @@
 -- Stretches of the places of a hash that are looked at one after the other.
 use Rattle.std.proofs.Common.{◌≡◌, ◌≢◌, ℕ, ◌+◌, ◌-◌, ◌*◌, ◌≤◌, Bool, true, false, ◌&&◌, eqb, List, length, refl, sym, subst, ◌∙◌, ap, arith, inl, inr}
 use mir.Val.{bool_byte}
-use Rattle.std.proofs.Math.Bool.{and-false}
-use Rattle.std.proofs.lemmas.Bool.{cases_eq, ne_eqb, eq-eqb}
-use Rattle.bloom_parts.specs.Chain.{IsAt}
-use Rattle.bloom_parts.specs.Content.{content}
-use Rattle.bloom_parts.specs.Places.{are_in}
+use Rattle.bloom_parts.proofs.Common.{and-false, cases_eq, ne_eqb, eq-eqb, IsAt, content, are_in}
 use Rattle.bloom_parts.specs.declared.hasher.chain.DoubleHasher.{DoubleHasher}
 use Rattle.bloom_parts.specs.Stretches.{are_on, Advances, TellsNext}
 use Rattle.bloom_parts.proofs.StretchLemmas.{are_in_from-zero, are_in_from-start, are_in_from-append}

@@ -1,8 +1,7 @@
 -- In how many lists of draws a position is, and in how many it isn't. A rate is a mean.
 use Rattle.std.proofs.Common.{◌≡◌, ℕ, zero, suc, ◌+◌, ◌-◌, ◌*◌, ◌^◌, ◌<◌, Bool, true, false, ◌||◌, ◌&&◌, eqb, if◌then◌else◌, List, ◌∷◌, refl, ap, ◌∙◌, sym, arith}
 use Rattle.std.proofs.Math.Nat.{pow-zero, pow-suc, pow-succ'}
-use Rattle.bloom_parts.specs.Counts.{count_on}
-use Rattle.bloom_parts.specs.Draws.{sum_below, sum_draws, is_drawn, all_in, one_if, positives, ListsLaw, MeanLaw, PositivesLaw, PowersLaw}
+use Rattle.bloom_parts.proofs.Common.{count_on, sum_below, sum_draws, is_drawn, all_in, one_if, positives, ListsLaw, MeanLaw, PositivesLaw, PowersLaw}
 use Rattle.bloom_parts.proofs.DrawLemmas.{draws-same, draws-add, draws-all, draws-none, draws-below}
 use Rattle.bloom_parts.proofs.SumLemmas.{below-scale, below-const, below-same, below-others, sum-count}
 

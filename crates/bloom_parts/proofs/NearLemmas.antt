@@ -1,11 +1,7 @@
 -- How far the two bounds of a number of items are apart: the expected density rises by some share
 -- of a bit an item, and its ends are close.
 use Rattle.std.proofs.Common.{◌≡◌, ℕ, zero, suc, ◌+◌, ◌-◌, ◌*◌, ◌^◌, ◌<◌, ◌≤◌, Option, None, Some, IfSome, ◌∙◌, ap, arith, inl, inr}
-use Rattle.std.proofs.Math.Nat.{le_of_mul-le-mul_right, lt_of_mul-lt-mul_right, one-le-pow, pow-le-pow_left, pow-suc, pow-zero}
-use Rattle.std.proofs.lemmas.Bool.{cases_lt}
-use Rattle.std.proofs.lemmas.Nat.{mul-le, pow-add}
-use Rattle.bloom_parts.specs.Brackets.{density_low, density_high}
-use Rattle.bloom_parts.specs.Estimates.{IsNear}
+use Rattle.bloom_parts.proofs.Common.{le_of_mul-le-mul_right, lt_of_mul-lt-mul_right, one-le-pow, pow-le-pow_left, pow-suc, pow-zero, cases_lt, mul-le, pow-add, density_low, density_high, IsNear}
 use Rattle.bloom_parts.proofs.DensityLemmas.{IsEnds}
 
 -- a power of m + 1 is at least as much more than that of m as the first term of its expansion says

@@ -1,8 +1,7 @@
 -- What commands to a filter decide and reply, case by case. With two hashes the hash 1 has the
 -- positions 0 and 40 among 128.
 use Rattle.std.proofs.Common.{◌≡◌, true, false, ◌||◌, eqb, [], ◌∷◌, Some, None, refl}
-use Rattle.bloom_parts.specs.Chain.{chain}
-use Rattle.bloom_parts.specs.Places.{positions, are_in}
+use Rattle.bloom_parts.proofs.Common.{chain, positions, are_in}
 use Rattle.bloom_parts.specs.Operations.{Insert, Contains, Clear, Union, Intersect, state_after, reply}
 use Rattle.bloom_parts.proofs.Cases.{only}
 

@@ -2,8 +2,7 @@
 use Rattle.std.proofs.Common.{◌≡◌, ℕ, zero, suc, ◌*◌, ◌/◌, ◌^◌, ◌<◌, Bool, true, false, eqb, refl, sym, ◌∙◌, ap, subst, arith, inl, inr, lit<}
 use Rattle.std.proofs.lemmas.Bool.{cases_lt, or_cases, and_parts, and_from, or_left, or_right, eqb-true, eq-eqb, false_from_ne_true, both_ways}
 use Rattle.std.proofs.Math.Nat.{div-lt_iff_lt-mul, mul-lt-mul_of_pos_right, mul_comm}
-use Rattle.bloom_parts.specs.Chain.{chain}
-use Rattle.bloom_parts.specs.Places.{place, positions, are_in, IsPosition, IsPart, PositionsLaw, SubsetLaw, RangeLaw}
+use Rattle.bloom_parts.proofs.Common.{chain, place, positions, are_in, IsPosition, IsPart, PositionsLaw, SubsetLaw, RangeLaw}
 use Rattle.bloom_parts.proofs.StretchLemmas.{are_in_from-start, part-of, positions_from-start}
 
 -- a position is one of the places

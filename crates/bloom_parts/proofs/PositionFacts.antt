@@ -2,12 +2,8 @@
 -- definition that public clauses cite a case that holds and cases as near as can be that don't.
 -- The hash 1 has the positions 0, 20, 32 and 29 among 64, and the hash 0 has position 0 alone.
 use Rattle.std.proofs.Common.{◌≡◌, ℕ, zero, suc, ◌+◌, ◌-◌, ◌^◌, ◌<◌, ◌≤◌, Bool, true, false, [], ◌∷◌, slice_index, refl, sym, arith, lit<, lit≤}
-use Rattle.std.proofs.lemmas.Bool.{both_ways}
-use Rattle.bloom_parts.specs.Chain.{chain, IsAt}
-use Rattle.bloom_parts.specs.Content.{content, index_of, AreWords, EqualWordsLaw, BoundLaw}
-use Rattle.bloom_parts.specs.Counts.{count_on}
+use Rattle.bloom_parts.proofs.Common.{both_ways, chain, IsAt, content, index_of, AreWords, EqualWordsLaw, BoundLaw, count_on, place, positions, are_in, IsPosition, IsPart, PositionsLaw, SubsetLaw, RangeLaw}
 use Rattle.bloom_parts.specs.Many.{TellsFound, TellsNew, is_new}
-use Rattle.bloom_parts.specs.Places.{place, positions, are_in, IsPosition, IsPart, PositionsLaw, SubsetLaw, RangeLaw}
 use Rattle.bloom_parts.specs.Shares.{share_start, IsOnly, ShareLaw, ReachedLaw, EvenLaw}
 use Rattle.bloom_parts.proofs.BitSetLemmas.{bits-next, content-where, no-bit}
 use Rattle.bloom_parts.proofs.PlaceLemmas.{part-from}

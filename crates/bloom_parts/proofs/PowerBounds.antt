@@ -1,8 +1,7 @@
 -- What rounded powers are bounds of.
 use Rattle.std.proofs.Common.{add-zero, add-one, ◌≡◌, ℕ, zero, suc, ◌+◌, ◌*◌, ◌/◌, ◌%◌, ◌^◌, ◌<◌, ◌≤◌, refl, ap, ◌∙◌, arith, subst, sym}
 use Rattle.std.proofs.Math.Nat.{le_of_mul-le-mul_right, mul-zero, pow-suc, pow-zero}
-use Rattle.std.proofs.lemmas.Nat.{mul-le, pow-add}
-use Rattle.bloom_parts.specs.Powers.{next_power, rounded_power}
+use Rattle.bloom_parts.proofs.Common.{mul-le, pow-add, next_power, rounded_power}
 use Rattle.bloom_parts.proofs.PowerDigits.{half-below}
 
 -- a power of a power

@@ -1,8 +1,6 @@
 -- How far two rounded powers are apart, one of which is rounded down and the other up.
 use Rattle.std.proofs.Common.{add-zero, add-one, ◌≡◌, ℕ, zero, suc, ◌+◌, ◌-◌, ◌*◌, ◌/◌, ◌%◌, ◌^◌, ◌<◌, ◌≤◌, refl, arith, subst, sym}
-use Rattle.std.proofs.Math.Nat.{lt_of_mul-lt-mul_right}
-use Rattle.std.proofs.lemmas.Nat.{mul-le}
-use Rattle.bloom_parts.specs.Powers.{next_power, rounded_power}
+use Rattle.bloom_parts.proofs.Common.{lt_of_mul-lt-mul_right, mul-le, next_power, rounded_power}
 use Rattle.bloom_parts.proofs.PowerDigits.{half-below}
 use Rattle.bloom_parts.proofs.PowerBounds.{by-half}
 

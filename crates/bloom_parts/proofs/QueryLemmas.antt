@@ -1,9 +1,7 @@
 -- In how many lists of draws all of a query are, by one position of the query after the other.
 use Rattle.std.proofs.Common.{◌≡◌, ℕ, zero, suc, ◌+◌, ◌-◌, ◌*◌, ◌^◌, ◌<◌, ◌≤◌, Bool, true, false, ◌||◌, ◌&&◌, eqb, if◌then◌else◌, List, [], ◌∷◌, length, refl, ap, ap₂, ◌∙◌, arith, inl, inr}
 use Rattle.std.proofs.lemmas.Bool.{cases_eq, cases_Bool, cond-true, cond-false, eq-eqb, ne_eqb}
-use Rattle.std.proofs.lemmas.Nat.{mul-pow, pow-add}
-use Rattle.std.proofs.Math.Nat.{mul-le-mul_left, mul-le-mul_right, pow-le-pow_left, pow-suc, pow-zero}
-use Rattle.bloom_parts.specs.Draws.{sum_below, sum_draws, is_drawn, all_in, one_if, false_positives}
+use Rattle.bloom_parts.proofs.Common.{mul-pow, pow-add, mul-le-mul_left, mul-le-mul_right, pow-le-pow_left, pow-suc, pow-zero, sum_below, sum_draws, is_drawn, all_in, one_if, false_positives}
 use Rattle.bloom_parts.proofs.DrawLemmas.{draws-le, draws-same, draws-scale, draws-all, draws-below, draws-draws}
 use Rattle.bloom_parts.proofs.MeanLemmas.{avoiding, draws-split}
 use Rattle.bloom_parts.proofs.SumLemmas.{below-add, below-scale, below-const, below-le}

@@ -1,16 +1,7 @@
 -- Brackets of rates of false positives, from those of shares of set bits.
 use Rattle.std.proofs.Common.{◌≡◌, ℕ, zero, suc, ◌+◌, ◌-◌, ◌*◌, ◌/◌, ◌^◌, ◌<◌, ◌≤◌, Bool, true, ◌||◌, eqb, if◌then◌else◌, refl, ap, ◌∙◌, arith, inl, inr, min, max}
-use Rattle.std.proofs.lemmas.Bool.{cases_lt, cond-false, ne_eqb}
-use Rattle.std.proofs.lemmas.Grind.{div_ceil_times}
-use Rattle.std.proofs.lemmas.Nat.{mul-le}
-use Rattle.std.proofs.Math.Nat.{div-mul-le_self, mul-le-mul_left, pow-zero}
-use Rattle.std.specs.Int.{div_ceil}
-use Rattle.bloom_parts.specs.declared.math.bracket.Bracket.{Bracket}
-use Rattle.bloom_parts.specs.Brackets.{low_of, high_of, width_of, Holds, HoldsDensity}
-use Rattle.bloom_parts.specs.Counts.{count_on}
-use Rattle.bloom_parts.specs.Draws.{drawn_lists, false_positives, positives}
+use Rattle.bloom_parts.proofs.Common.{cases_lt, cond-false, ne_eqb, div_ceil_times, mul-le, div-mul-le_self, mul-le-mul_left, pow-zero, div_ceil, Bracket, low_of, high_of, width_of, Holds, HoldsDensity, count_on, drawn_lists, false_positives, positives, lower_power_of, upper_power_of}
 use Rattle.bloom_parts.specs.FalsePositives.{HoldsFalsePositives, HoldsPositives, HoldsEither, share_above, false_pos_high, false_pos_width}
-use Rattle.bloom_parts.specs.Powers.{lower_power_of, upper_power_of}
 use Rattle.bloom_parts.proofs.CountLemmas.{count-most}
 use Rattle.bloom_parts.proofs.DensityLemmas.{density-none}
 use Rattle.bloom_parts.proofs.EndLemmas.{lower-holds, upper-holds, upper-none}

@@ -1,12 +1,7 @@
 -- The ends of the rate of false positives, from those of the mean share of the bits that is set.
 use Rattle.std.proofs.Common.{◌≡◌, ℕ, suc, ◌+◌, ◌-◌, ◌*◌, ◌^◌, ◌<◌, ◌≤◌, Bool, true, false, ap, arith, inl, inr, min}
-use Rattle.std.proofs.lemmas.Bool.{cases_lt}
-use Rattle.std.proofs.lemmas.Grind.{div_ceil_times}
-use Rattle.std.proofs.lemmas.Nat.{mul-le, pow-add}
+use Rattle.bloom_parts.proofs.Common.{cases_lt, div_ceil_times, mul-le, pow-add, div_ceil, count_on, is_drawn, all_in, one_if, positives, drawn_lists, false_positives}
 use Rattle.std.proofs.Math.Nat.{le_of_mul-le-mul_right, mul-le-mul_left, mul-le-mul_right, lt_of_mul-lt-mul_right, one-le-mul, one-le-pow, pow-le-pow_left, pow-suc}
-use Rattle.std.specs.Int.{div_ceil}
-use Rattle.bloom_parts.specs.Counts.{count_on}
-use Rattle.bloom_parts.specs.Draws.{is_drawn, all_in, one_if, positives, drawn_lists, false_positives}
 use Rattle.bloom_parts.proofs.CountLemmas.{count-most}
 use Rattle.bloom_parts.proofs.DrawLemmas.{draws-le, draws-scale, draws-all}
 use Rattle.bloom_parts.proofs.FormulaLemmas.{formula_law}

@@ -1,9 +1,7 @@
 -- The roots of order 64 of the powers of two.
 use Rattle.std.proofs.Common.{◌≡◌, ℕ, zero, suc, ◌+◌, ◌^◌, ◌<◌, ◌≤◌, Bool, true, List, [], ◌∷◌, ◌&&◌, leb, ltb, length, get_or, arith, subst, inl, inr, lit<, lit≤}
-use Rattle.std.proofs.lemmas.Bool.{cases_lt}
-use Rattle.std.proofs.lemmas.Bool.Decides.{nat_tests}
+use Rattle.bloom_parts.proofs.Common.{cases_lt, nat_tests, IsRoot}
 use Rattle.std.proofs.Math.Nat.{le_trans, lt_of_le_of_lt, pow-le-pow_left, pow-le-pow_right}
-use Rattle.bloom_parts.specs.Roots.{IsRoot}
 
 -- the test of a list whether it has the roots, from root j on
 abbrev pub are_roots : ℕ → List ℕ → Bool

@@ -1,10 +1,7 @@
 -- Quotients rounded up, and rounded half up.
 use Rattle.std.proofs.Common.{ℕ, ◌+◌, ◌*◌, ◌<◌, ◌≤◌, arith}
-use Rattle.std.specs.Int.{div_ceil}
-use Rattle.std.proofs.lemmas.Grind.{div_ceil_times}
-use Rattle.std.proofs.lemmas.Nat.{mul-le}
+use Rattle.bloom_parts.proofs.Common.{div_ceil, div_ceil_times, mul-le, HalfUpLaw}
 use Rattle.std.proofs.Math.Nat.{le-div_iff_mul-le, lt_of_mul-lt-mul_right}
-use Rattle.bloom_parts.specs.Sizing.{HalfUpLaw}
 
 -- a quotient rounded up is at most q where q times the divisor is enough
 pub div_ceil-le : (x y q : ℕ) → 0 < y → x ≤ q * y → div_ceil x y ≤ q

@@ -1,7 +1,6 @@
 -- Lists of words that are compared eight at a time.
 use Rattle.std.proofs.Common.{◌≡◌, ℕ, ◌+◌, ◌-◌, ◌%◌, ◌≤◌, ◌^◌, List, [], ◌∷◌, ◌++◌, Bool, IsTrue, not, eqb, nat_eq, cond, map, take, length, w64, lit≤, refl, ap, sym, subst, ◌∙◌, arith, rules}
-use Rattle.std.proofs.Math.Seq.{take-add}
-use Rattle.std.proofs.lemmas.Bool.Decides.{nat_tests}
+use Rattle.bloom_parts.proofs.Common.{take-add, nat_tests}
 use Rattle.std.proofs.lemmas.Simd.{length-zip2, mask_l-mod, tops_compared}
 use lib.Lanes.{chunk, mask_l, top, zip2}
 

@@ -1,11 +1,6 @@
 -- The share of the hashes that a position has.
 use Rattle.std.proofs.Common.{◌≡◌, ℕ, ◌+◌, ◌*◌, ◌^◌, ◌<◌, ◌≤◌, refl, sym, ◌∙◌, eqb, arith, inl, inr}
-use Rattle.std.proofs.lemmas.Bool.{cases_lt, eqb-true, eq-eqb}
-use Rattle.std.proofs.lemmas.Grind.{div_ceil_times}
-use Rattle.std.proofs.Math.Nat.{lt_of_mul-lt-mul_right}
-use Rattle.bloom_parts.specs.Chain.{chain}
-use Rattle.bloom_parts.specs.Content.{index_of}
-use Rattle.bloom_parts.specs.Places.{positions}
+use Rattle.bloom_parts.proofs.Common.{cases_lt, eqb-true, eq-eqb, div_ceil_times, lt_of_mul-lt-mul_right, chain, index_of, positions}
 use Rattle.bloom_parts.specs.Shares.{share_start, IsOnly, ShareLaw, ReachedLaw, EvenLaw}
 use Rattle.bloom_parts.proofs.RoundingLemmas.{div_ceil-le, le-div_ceil}
 

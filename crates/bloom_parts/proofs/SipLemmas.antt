@@ -1,12 +1,8 @@
 -- How a list of bytes is cut into words: lists that are joined, short lists, and words joined.
 use Rattle.std.proofs.Common.{◌≡◌, ℕ, zero, suc, ◌+◌, ◌*◌, ◌/◌, ◌%◌, ◌<◌, List, [], ◌∷◌, ◌++◌, length, get_or, take, drop, refl, ap, ◌∙◌, sym, arith, length-append, length-take}
-use Rattle.std.proofs.Math.Seq.{take-add}
+use Rattle.bloom_parts.proofs.Common.{take-add, map, concat, w64, from_le_bytes, whole_words, rest}
 use Rattle.std.proofs.lemmas.List.{take-append-drop}
-use Rattle.std.specs.Prelude.{map}
 use Rattle.std.specs.Simd.{first_chunks}
-use Rattle.std.specs.List.{concat}
-use Rattle.std.specs.Int.{w64, from_le_bytes}
-use Rattle.bloom_parts.specs.Sip.{whole_words, rest}
 
 -- how many bytes remain
 pub length-rest : (bytes : List ℕ) → length (rest bytes) ≡ length bytes % 8

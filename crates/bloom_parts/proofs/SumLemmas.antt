@@ -1,8 +1,6 @@
 -- Sums over the numbers below a bound.
 use Rattle.std.proofs.Common.{◌≡◌, ℕ, zero, suc, ◌+◌, ◌*◌, ◌<◌, ◌≤◌, Bool, eqb, if◌then◌else◌, refl, ap, sym, arith, inl, inr}
-use Rattle.std.proofs.lemmas.Bool.{cases_lt, cond-true, cond-false, eq-eqb, ne_eqb}
-use Rattle.bloom_parts.specs.Counts.{count_on}
-use Rattle.bloom_parts.specs.Draws.{sum_below, one_if}
+use Rattle.bloom_parts.proofs.Common.{cases_lt, cond-true, cond-false, eq-eqb, ne_eqb, count_on, sum_below, one_if}
 
 -- a sum of sums
 pub below-add : (b : ℕ) (f g : ℕ → ℕ) →

@@ -1,12 +1,8 @@
 -- Stretches of the places of a hash that are set one after the other.
 use Rattle.std.proofs.Common.{◌≡◌, ℕ, zero, suc, ◌+◌, ◌*◌, Bool, true, false, ◌||◌, ◌&&◌, eqb, bit_or, List, length, refl, sym, subst, ◌∙◌, ap, arith}
-use Rattle.std.proofs.Math.Bool.{or-false, or_assoc}
-use Rattle.std.proofs.lemmas.Bool.{ne_eqb}
+use Rattle.bloom_parts.proofs.Common.{or-false, or_assoc, ne_eqb, IsAt, content, positions, are_in}
 use Rattle.std.proofs.lemmas.Nat.{le_or_l}
 use Rattle.std.specs.Int.Bits.{or_zero_l}
-use Rattle.bloom_parts.specs.Chain.{IsAt}
-use Rattle.bloom_parts.specs.Content.{content}
-use Rattle.bloom_parts.specs.Places.{positions, are_in}
 use Rattle.bloom_parts.specs.declared.hasher.chain.DoubleHasher.{DoubleHasher}
 use Rattle.bloom_parts.specs.Stretches.{positions_from, are_in_from, TurnsOn, Advances, TurnsOnNext, HasTurnedOn}
 use Rattle.bloom_parts.proofs.StretchLemmas.{positions_from-zero, are_in_from-zero, positions_from-start, are_in_from-start, positions_from-append, test-after}

@@ -1,9 +1,7 @@
 -- The rate is at most a power of a share a little above the mean one: a product of numbers that
 -- rise evenly is at most a power of the one in their middle.
 use Rattle.std.proofs.Common.{◌≡◌, ℕ, zero, suc, ◌+◌, ◌-◌, ◌*◌, ◌^◌, ◌≤◌, ap, arith}
-use Rattle.std.proofs.lemmas.Nat.{mul-pow, mul-le}
-use Rattle.std.proofs.Math.Nat.{mul-le-mul_left, mul-le-mul_right, pow-le-pow_left, pow-suc, pow-zero}
-use Rattle.bloom_parts.specs.Draws.{false_positives, UpperLaw}
+use Rattle.bloom_parts.proofs.Common.{mul-pow, mul-le, mul-le-mul_left, mul-le-mul_right, pow-le-pow_left, pow-suc, pow-zero, false_positives, UpperLaw}
 use Rattle.bloom_parts.proofs.QueryLemmas.{rising, positives-product}
 
 -- the first of them apart

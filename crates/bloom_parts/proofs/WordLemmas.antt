@@ -1,11 +1,9 @@
 -- Words and their content determine each other.
 use Rattle.std.proofs.Common.{◌≡◌, ℕ, zero, suc, ◌+◌, ◌*◌, ◌/◌, ◌%◌, ◌^◌, ◌<◌, ◌≤◌, false, eqb, List, length, get_or, refl, sym, ◌∙◌, ap, arith, inl, inr}
-use Rattle.std.specs.Int.{bit_at}
+use Rattle.bloom_parts.proofs.Common.{bit_at, cases_lt, both_ways, bit_is_on, content, AreWords, EqualWordsLaw, BoundLaw}
 use Rattle.std.proofs.lemmas.Nat.Bits.{bit_at-lt, same_from_bits_below}
-use Rattle.std.proofs.lemmas.Bool.{cases_lt, both_ways}
 use Rattle.std.proofs.lemmas.List.{ext_get_or, get_or_past}
 use Rattle.std.proofs.lemmas.List.Elements.{All-get_or}
-use Rattle.bloom_parts.specs.Content.{bit_is_on, content, AreWords, EqualWordsLaw, BoundLaw}
 use Rattle.bloom_parts.proofs.ContentLemmas.{bit_is_on-zero}
 
 -- digits of 0 or 1 that are 1 alike are equal

@@ -1,11 +1,6 @@
 -- What the steps of a write make of a hasher: whole words, the bytes around them, the last word.
 use Rattle.std.proofs.Common.{◌≡◌, ℕ, ◌+◌, ◌-◌, ◌*◌, ◌%◌, ◌^◌, ◌<◌, ◌++◌, List, [], length, set, take, fold, arith, ap, sym, ◌∙◌, length-append}
-use Rattle.std.specs.Prelude.{map}
-use Rattle.std.specs.List.{concat}
-use Rattle.std.specs.Int.{w64, from_le_bytes}
-use Rattle.bloom_parts.specs.Buffers.{padded, held_in, IsKept}
-use Rattle.bloom_parts.specs.Hashed.{SipState, write, finish, Takes}
-use Rattle.bloom_parts.specs.Sip.{Words, absorb, answer, last_word}
+use Rattle.bloom_parts.proofs.Common.{map, concat, w64, from_le_bytes, padded, held_in, IsKept, SipState, write, finish, Takes, Words, absorb, answer, last_word}
 use Rattle.bloom_parts.proofs.BufferLemmas.{topped, length-held_in}
 use Rattle.bloom_parts.proofs.SipLemmas.{AreEights, IsCut, empty, length-concat}
 use Rattle.bloom_parts.proofs.HashedLemmas.{takes, write-append, write-words, length-held}

@@ -1,9 +1,7 @@
 -- Unions and intersections of contents.
 use Rattle.std.proofs.Common.{◌||◌, ◌&&◌, sym, ◌∙◌, ap}
 use Rattle.std.proofs.Math.Bool.{or_assoc, or_comm, or_self, and_assoc, and_comm, and_self}
-use Rattle.bloom_parts.specs.Content.{content}
-use Rattle.bloom_plain.specs.Filter.{Unites, Intersects}
-use Rattle.bloom_plain.specs.Laws.{IsCommutative, IsAssociative, IsIdempotent}
+use Rattle.bloom_plain.proofs.Common.{content, Unites, Intersects, IsCommutative, IsAssociative, IsIdempotent}
 
 -- either of two filters may come first in a union
 pub union-comm : (S : Type 0) → IsCommutative S Unites

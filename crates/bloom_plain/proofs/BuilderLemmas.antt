@@ -1,13 +1,10 @@
 -- What builders make.
 use Rattle.std.proofs.Common.{◌≡◌, ℕ, ◌*◌, max, nat_eq, List, replicate, Option, sym, ◌∙◌, ap, subst}
-use Rattle.std.proofs.lemmas.Bool.{eqb-true, eq-eqb}
+use Rattle.bloom_plain.proofs.Common.{eqb-true, eq-eqb, Start, RateStart, Filter, EqualStartsLaw, EqualRateStartsLaw}
 use Rattle.std.specs.Cmp.Lexicographic.{pointwise, same_text, nat_list_eq_equiv}
 use Rattle.std.proofs.Math.Nat.{max_comm}
 use Rattle.std.specs.Iterator.Runs.{WholeRun}
 use Rattle.bloom_parts.specs.Rates.{num_of, den_of}
-use Rattle.bloom_plain.specs.Builders.{Start, RateStart}
-use Rattle.bloom_plain.specs.Filter.{Filter}
-use Rattle.bloom_plain.specs.Laws.{EqualStartsLaw, EqualRateStartsLaw}
 
 -- what `insert_all` does with an iterator and a filter, it does with an iterator and a filter that
 -- are equal to them

@@ -1,11 +1,10 @@
 -- Filters of the same data.
 use Rattle.std.proofs.Common.{◌≡◌, ◌∙◌, ℕ, length, ap, arith, sym}
-use Rattle.bloom_parts.specs.Content.{content}
+use Rattle.bloom_plain.proofs.Common.{content, Placement, anywhere}
 use Rattle.bloom_parts.specs.Keys.{HasKey, key_of}
 use Rattle.bloom_parts.specs.declared.hasher.CloneBuildHasher.{CloneBuildHasher}
 use Rattle.bloom_parts.specs.declared.hasher.sip.RandomDefaultHasher.{RandomDefaultHasher}
 use Rattle.bloom_plain.specs.Data.{AnswerAlikeBy, DataLaw, DefaultFilter, SameItemsLaw}
-use Rattle.bloom_plain.specs.Filter.{Placement, anywhere}
 
 -- filters of equal words, numbers of hashes and keys answer alike
 pub alike-parts : (at : Placement) (f g : DefaultFilter) → g.words ≡ f.words

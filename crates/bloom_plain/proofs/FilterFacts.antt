@@ -2,10 +2,8 @@
 -- definition that public clauses cite a case that holds and cases as near as can be that don't.
 -- Hash 1 has the positions 0, 20 and 32 among 64 bits, so that its first two make the word 1048577.
 use Rattle.std.proofs.Common.{◌≡◌, ℕ, true, false, List, [], ◌∷◌, refl, arith, lit<, lit≤}
-use Rattle.bloom_parts.specs.Chain.{chain}
-use Rattle.bloom_parts.specs.Content.{content}
+use Rattle.bloom_plain.proofs.Common.{chain, content, are_in}
 use Rattle.bloom_parts.specs.Counts.{count_on}
-use Rattle.bloom_parts.specs.Places.{are_in}
 use Rattle.bloom_plain.specs.Filter.{Filter, num_bits_of, IsShape, HasShape, SameShape, contains, same_filter}
 use Rattle.bloom_plain.specs.Ones.{ones_of, ones_of_either}
 

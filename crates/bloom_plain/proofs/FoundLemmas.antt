@@ -2,19 +2,11 @@
 -- one position: set, clear, or nothing.
 use Rattle.std.proofs.Common.{◌≡◌, ℕ, Bool, true, false, cond, List, [], ◌∷◌, ◌++◌, map, Option, Some, None, unwrap_or, All, refl, ◌∙◌, ap, subst}
 use Rattle.std.specs.Option.{option_or}
-use Rattle.std.proofs.lemmas.List.{map-append}
+use Rattle.bloom_plain.proofs.Common.{map-append, content, last_decision, positions, IsPart, operation_of, anywhere, num_bits_of, positions_of, Spares, KeptByListLaw, KeptByInsertsLaw, FoundLaw, FoundAfterInsertsLaw, FoundAfterReplayLaw, CarriesOut, part-from, part-to}
 use Rattle.std.proofs.lemmas.List.Elements.{All-head, All-tail, All-map}
-use Rattle.bloom_parts.specs.Content.{content}
-use Rattle.bloom_parts.specs.Deciders.{last_decision}
-use Rattle.bloom_parts.specs.Places.{positions, IsPart}
-use Rattle.bloom_plain.specs.CommandOf.{operation_of}
 use Rattle.bloom_parts.specs.Operations.{Operation, Insert, Contains, Clear, Union, Intersect, decides}
-use Rattle.bloom_plain.specs.Filter.{anywhere, num_bits_of, positions_of}
-use Rattle.bloom_plain.specs.Laws.{Spares, KeptByListLaw, KeptByInsertsLaw, FoundLaw, FoundAfterInsertsLaw, FoundAfterReplayLaw}
-use Rattle.bloom_plain.specs.Replies.{CarriesOut}
 use Rattle.bloom_plain.specs.declared.bloom.command.Command.TheVariants as command
 use Rattle.bloom_plain.proofs.LawLemmas.{contains-shape}
-use Rattle.bloom_parts.proofs.PublishedLemmas.{part-from, part-to}
 
 -- whether a position that was set before a decision is set after it
 unfoldable pub leaves_on : Option Bool → Bool

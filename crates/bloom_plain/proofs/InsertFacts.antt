@@ -2,12 +2,7 @@
 -- cite a case that holds and cases as near as can be that don't. Among 64 bits and with two hashes,
 -- hash 0 has position 0 alone, and hash 1 has the positions 0 and 20.
 use Rattle.std.proofs.Common.{◌≡◌, ◌-◌, ◌<◌, ◌^◌, ℕ, Bool, true, false, ◌||◌, [], ◌∷◌, refl, ap, ◌∙◌, arith, lit<}
-use Rattle.bloom_parts.specs.Chain.{chain}
-use Rattle.bloom_parts.specs.Content.{content}
-use Rattle.bloom_parts.specs.Operations.{Insert, state_after}
-use Rattle.bloom_parts.specs.Places.{positions, are_in}
-use Rattle.bloom_plain.specs.Filter.{contains, Inserts}
-use Rattle.bloom_plain.specs.Replies.{InsertsAll, InsertsItems}
+use Rattle.bloom_plain.proofs.Common.{chain, content, Insert, state_after, positions, are_in, contains, Inserts, InsertsAll, InsertsItems}
 use Rattle.bloom_plain.proofs.CaseLemmas.{alike_below, content-case, content-past, positions-past}
 use Rattle.bloom_plain.proofs.FilterFacts.{filter, one_word}
 

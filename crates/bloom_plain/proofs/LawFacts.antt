@@ -2,18 +2,11 @@
 -- they may. The laws of combinations are in SetFacts.
 use Rattle.std.proofs.Common.{◌≡◌, ◌↔◌, ◌*◌, ◌^◌, ◌<◌, ℕ, true, false, ◌&&◌, [], ◌∷◌, map, refl, sym, ap, lit<, lit≤}
 use Rattle.std.specs.Prelude.{IsTrue}
-use Rattle.std.proofs.lemmas.Bool.{eqb-true}
+use Rattle.bloom_plain.proofs.Common.{eqb-true, chain, Insert, Contains, Union, Intersect, positions, are_in, Start, RateStart, same_start, same_rate_start, operation_of, Filter, SameShape, anywhere, contains, same_filter, CarriesOut, InsertsAll}
 use Rattle.std.proofs.lemmas.List.Elements.{All-from_recursion}
-use Rattle.bloom_parts.specs.Chain.{chain}
 use Rattle.bloom_parts.specs.Content.{content, AreWords}
-use Rattle.bloom_parts.specs.Operations.{Insert, Contains, Union, Intersect}
-use Rattle.bloom_parts.specs.Places.{positions, are_in}
 use Rattle.bloom_parts.specs.Rates.{num_of, den_of}
-use Rattle.bloom_plain.specs.Builders.{Start, RateStart, same_start, same_rate_start}
-use Rattle.bloom_plain.specs.CommandOf.{operation_of}
-use Rattle.bloom_plain.specs.Filter.{Filter, SameShape, anywhere, contains, same_filter}
 use Rattle.bloom_plain.specs.Laws.{InsertLaw, KeptByInsertLaw, KeptByUnionLaw, Spares, KeptByListLaw, KeptByInsertsLaw, IntersectionLaw, UnionLaw, ClearLaw, SameContent, Rebuilds, RebuiltLaw, EqualityLaw, EqualContentLaw, EqualStartsLaw, EqualRateStartsLaw, JoinedListsLaw, FoundLaw, FoundAfterInsertsLaw, FoundAfterReplayLaw, UnitedInsertsLaw}
-use Rattle.bloom_plain.specs.Replies.{CarriesOut, InsertsAll}
 use Rattle.bloom_plain.specs.declared.bloom.command.Command.TheVariants as command
 use Rattle.bloom_plain.proofs.BuilderFacts.{start, half, quarters}
 use Rattle.bloom_plain.proofs.FilterFacts.{filter, one_word, shape}

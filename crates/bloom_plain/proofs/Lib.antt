@@ -2,6 +2,7 @@ mod AlgebraLemmas
 mod BuilderFacts
 pub mod BuilderLemmas
 pub mod CaseLemmas
+mod Common
 mod DataFacts
 pub mod DataLemmas
 pub mod FilterFacts

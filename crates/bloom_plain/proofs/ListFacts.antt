@@ -1,14 +1,9 @@
 -- Lists of commands, at values from outside: for each definition that public clauses cite a case
 -- that holds and cases as near as can be that don't. With one hash, hash 0 has position 0.
 use Rattle.std.proofs.Common.{◌≡◌, ℕ, true, false, List, [], ◌∷◌, map, Bor, refl, arith, lit<}
-use Rattle.bloom_parts.specs.Chain.{chain}
-use Rattle.bloom_parts.specs.Content.{content}
+use Rattle.bloom_plain.proofs.Common.{chain, content, Operation, state_after, positions, are_in, Filter, CarriesOut}
 use Rattle.bloom_parts.specs.Operations as operation
-use Rattle.bloom_parts.specs.Operations.{Operation, state_after}
-use Rattle.bloom_parts.specs.Places.{positions, are_in}
 use Rattle.bloom_plain.specs.CommandOf.{operation_of, Fits}
-use Rattle.bloom_plain.specs.Filter.{Filter}
-use Rattle.bloom_plain.specs.Replies.{CarriesOut}
 use Rattle.bloom_plain.specs.declared.bloom.command.Command.{Command}
 use Rattle.bloom_plain.specs.declared.bloom.command.Command.TheVariants.{Insert, Contains, Clear, Union, Intersect}
 use Rattle.bloom_plain.proofs.CaseLemmas.{content-case, content-past, positions-past}

@@ -1,10 +1,8 @@
 -- Lists of commands, command by command.
 use Rattle.std.proofs.Common.{◌≡◌, ℕ, ◌+◌, ◌<◌, Bool, List, [], ◌∷◌, ◌++◌, length, take, get_or, map, sym, ◌∙◌, ap, subst}
 use Rattle.std.proofs.lemmas.List.{map-append, take_more}
-use Rattle.bloom_parts.specs.Operations.{Operation}
-use Rattle.bloom_plain.specs.Filter.{Filter}
+use Rattle.bloom_plain.proofs.Common.{Operation, Filter, CarriesOut}
 use Rattle.bloom_plain.specs.ListLaws.{carries_out-append}
-use Rattle.bloom_plain.specs.Replies.{CarriesOut}
 
 -- a list that was carried out up to place i is carried out to its next command
 pub carries_out-next : {S C : Type 0} (says : C → Operation) (old mid new : Filter S)

@@ -2,13 +2,9 @@
 use Rattle.std.proofs.Common.{◌≡◌, ℕ, Bool, ◌||◌, List, [], ◌∷◌, map, refl, sym, ◌∙◌, ap}
 use Rattle.std.proofs.Math.Bool.{or-false, or_assoc}
 use Rattle.std.specs.List.{list_any}
-use Rattle.bloom_parts.specs.Content.{content}
+use Rattle.bloom_plain.proofs.Common.{content, Insert, decides, positions, Filter, SameShape, positions_of, num_bits_of, InsertsAll, replies}
 use Rattle.bloom_parts.specs.Deciders.{makes_on, state}
-use Rattle.bloom_parts.specs.Operations.{Insert, decides}
-use Rattle.bloom_parts.specs.Places.{positions}
 use Rattle.bloom_parts.proofs.PublishedLemmas.{state-append}
-use Rattle.bloom_plain.specs.Filter.{Filter, SameShape, positions_of, num_bits_of}
-use Rattle.bloom_plain.specs.Replies.{InsertsAll, replies}
 use Rattle.bloom_plain.proofs.ReplyLemmas.{or-makes_on}
 
 -- what is set after inserts of all hashes of a list

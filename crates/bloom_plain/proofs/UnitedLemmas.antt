@@ -1,14 +1,7 @@
 -- Filters into which lists of hashes were inserted, united.
 use Rattle.std.proofs.Common.{◌≡◌, ℕ, Bool, true, false, ◌||◌, List, ◌++◌, map, Option, Some, None, unwrap_or, refl, sym, ◌∙◌, ap}
 use Rattle.std.specs.Option.{option_or}
-use Rattle.std.proofs.Math.Bool.{or_comm, or_self}
-use Rattle.std.proofs.lemmas.List.{map-append}
-use Rattle.bloom_parts.specs.Content.{content}
-use Rattle.bloom_parts.specs.Deciders.{last_decision, state}
-use Rattle.bloom_parts.specs.Operations.{Insert, decides, state_after}
-use Rattle.bloom_plain.specs.Filter.{num_bits_of}
-use Rattle.bloom_plain.specs.Laws.{UnitedInsertsLaw}
-use Rattle.bloom_plain.specs.Replies.{replies}
+use Rattle.bloom_plain.proofs.Common.{or_comm, or_self, map-append, content, last_decision, state, Insert, decides, state_after, num_bits_of, UnitedInsertsLaw, replies}
 use Rattle.bloom_plain.proofs.FoundLemmas.{leaves_on, leaves_on-list, all_spare}
 use Rattle.bloom_parts.proofs.PublishedLemmas.{last_decision-append}
 

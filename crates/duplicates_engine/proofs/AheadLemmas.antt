@@ -2,12 +2,10 @@
 use Rattle.std.proofs.Common.{◌≡◌, ℕ, ◌+◌, ◌-◌, ◌^◌, min, List, [], ◌∷◌, ◌++◌, length, take, drop, Option, Some, None, refl, sym, ◌∙◌, ap, subst, arith}
 use Rattle.std.specs.Prelude.{MatchOption, IfSome}
 use Rattle.std.proofs.lemmas.List.{drop-drop, length-drop, take_all}
-use Rattle.std.specs.Io.KnownBytes.{prepend_known}
+use Rattle.duplicates_engine.proofs.Common.{prepend_known, TakesNext, IsLookedAt, AreLookedAtUpTo, AreLookedAt}
 use Rattle.lines.specs.Reading.{CutsLineBy, TakesShortBy}
 use Rattle.lines.proofs.WholeLemmas.{takes-whole}
 use Rattle.duplicates_engine.specs.declared.ahead.Looked.{Looked}
-use Rattle.duplicates_engine.specs.Inputs.{TakesNext}
-use Rattle.duplicates_engine.specs.Ahead.{IsLookedAt, AreLookedAtUpTo, AreLookedAt}
 
 module _ (has_hash : List ℕ → ℕ → Type 0) (end longest : ℕ) where
   -- one more line was looked at

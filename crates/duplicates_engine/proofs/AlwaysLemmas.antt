@@ -1,10 +1,8 @@
 -- Sieves that tell of a line however many came behind it.
 use Rattle.std.proofs.Common.{◌≡◌, ◌<◌, ℕ, Bool, true, false, List, [], ◌∷◌, ◌++◌, length, None, sym, ◌∙◌, ap, subst, length-append, arith}
-use Rattle.std.specs.Prelude.{All}
-use Rattle.std.proofs.lemmas.Bool.{true≢false}
+use Rattle.duplicates_engine.proofs.Common.{All, true≢false, IsNew}
 use Rattle.std.proofs.lemmas.List.Elements.{All-get_or, All-push, All-weaker}
 use Rattle.std.proofs.Math.Seq.{get_or-append_seam}
-use Rattle.duplicates_engine.specs.Sieves.{IsNew}
 
 -- a sieve that has these lines, and answers true of a line that it has
 pub always-new : (P : List ℕ → Type 0) (line : List ℕ) (reply : Bool) → (P line → reply ≡ true)

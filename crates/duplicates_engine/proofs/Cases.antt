@@ -1,9 +1,6 @@
 -- Cases that the facts of this crate share: lines, their replies, and what is asked for.
 use Rattle.std.specs.Prelude.{codes, ℕ, Bool, true, false, List, [], ◌∷◌, None, ⊤}
-use Rattle.duplicates_engine.specs.declared.fault.Fault.{Fault}
-use Rattle.duplicates_engine.specs.declared.options.Options.{Options}
-use Rattle.duplicates_engine.specs.declared.options.Written.{Written}
-use Rattle.duplicates_engine.specs.declared.tally.Total.{Total}
+use Rattle.duplicates_engine.proofs.Common.{Fault, Options, Written, Total}
 
 -- three lines, of which the third came before
 abbrev pub lines : List (List ℕ)

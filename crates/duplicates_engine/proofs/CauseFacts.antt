@@ -1,16 +1,11 @@
 -- Why a run ended early: of each relation cases that hold, and the nearest that don't.
 use Rattle.std.proofs.Common.{◌≡◌, ℕ, suc, List, [], ◌∷◌, ◌++◌, length, get_or, Some, refl, sym, ◌∙◌, ap, subst, arith}
-use Rattle.std.specs.Prelude.{codes}
-use Rattle.std.specs.declared.io.ErrorKind.{ErrorKind}
+use Rattle.duplicates_engine.proofs.Common.{codes, ErrorKind, lines_by, Fault, TooLong, Memory, Full, Open, Input, Output, lines_in}
 use Rattle.std.specs.declared.io.ErrorKind.TheVariants as kind
-use Rattle.lines.specs.Lines.{lines_by}
 use Rattle.bloom_parts.specs.declared.error.FilterError.TheVariants as filter
 use Rattle.bloom_growing.specs.declared.growing.error.GrowingError.{GrowingError}
 use Rattle.bloom_growing.specs.declared.growing.error.GrowingError.TheVariants.{RateOverflow, Filter}
-use Rattle.duplicates_engine.specs.declared.fault.Fault.{Fault}
-use Rattle.duplicates_engine.specs.declared.fault.Fault.TheVariants.{TooLong, Memory, Full, Open, Input, Output}
 use Rattle.duplicates_engine.specs.Causes.{TellsRead, TellsOpen, TellsWrite, TellsRefusal, IsCaused}
-use Rattle.duplicates_engine.specs.Inputs.{lines_in}
 use Rattle.duplicates_engine.proofs.Cases.{HoldsOfNone}
 
 -- a read that failed is told with its kind, or as out of memory where that is its kind, and as

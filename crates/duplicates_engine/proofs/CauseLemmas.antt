@@ -1,14 +1,8 @@
 -- Why a run ended, from the call that failed on.
 use Rattle.std.proofs.Common.{◌≤◌, ℕ, List, [], ◌∷◌, ◌++◌, length, Option, None, Some, refl}
-use Rattle.std.specs.Prelude.{IfSome}
-use Rattle.std.specs.declared.io.ErrorKind.{ErrorKind}
+use Rattle.duplicates_engine.proofs.Common.{IfSome, ErrorKind, Ends, Fault, TooLong, Memory, Full, Open, Input, Output, IsOfSystem, IsOfWriter, AreFirstRead}
 use Rattle.bloom_growing.specs.declared.growing.error.GrowingError.{GrowingError}
-use Rattle.lines.specs.Reading.{Ends}
-use Rattle.duplicates_engine.specs.declared.fault.Fault.{Fault}
-use Rattle.duplicates_engine.specs.declared.fault.Fault.TheVariants.{TooLong, Memory, Full, Open, Input, Output}
 use Rattle.duplicates_engine.specs.Causes.{FailsToOpen, FailsBehind, IsOfStep, AreOfFirst, RefusesLine, IsCaused}
-use Rattle.duplicates_engine.specs.Faults.{IsOfSystem, IsOfWriter}
-use Rattle.duplicates_engine.specs.Inputs.{AreFirstRead}
 
 -- an open that failed is no long line
 pub opening-system : {I : Type 0} (fails : I → I → ErrorKind → Type 0) (old new : I)

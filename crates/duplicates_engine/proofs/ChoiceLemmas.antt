@@ -1,13 +1,6 @@
 -- The lines that a run writes are a choice of all lines.
 use Rattle.std.proofs.Common.{ℕ, List, Option, Result, Ok, Err}
-use Rattle.std.specs.Prelude.{IfOk, IfErr}
-use Rattle.std.specs.declared.io.ErrorKind.{ErrorKind}
-use Rattle.duplicates_engine.specs.declared.fault.Fault.{Fault}
-use Rattle.duplicates_engine.specs.declared.options.Options.{Options}
-use Rattle.duplicates_engine.specs.declared.sieve.Sieve.{Ghosts}
-use Rattle.duplicates_engine.specs.declared.tally.Total.{Total}
-use Rattle.duplicates_engine.specs.Choices.{WritesChoice, WritesChoiceUntil}
-use Rattle.duplicates_engine.specs.Kept.{chosen, EndsEarly, KeepsNew, KeepsUntil}
+use Rattle.duplicates_engine.proofs.Common.{IfOk, IfErr, ErrorKind, Fault, Options, Ghosts, Total, WritesChoice, WritesChoiceUntil, chosen, EndsEarly, KeepsNew, KeepsUntil}
 use Rattle.duplicates_engine.proofs.PlaceLemmas.{chosen-nothing, leaves-new, writes-new}
 
 module _ {V : Type 0} (sieve : Ghosts V) (end : ℕ) (options : Options)

@@ -2,9 +2,7 @@
 use Rattle.std.proofs.Common.{◌≡◌, ◌+◌, ◌-◌, ◌^◌, ℕ, min, Bool, true, false, cond, List, [], ◌∷◌, ◌++◌, length-append, refl, arith}
 use Rattle.std.specs.List.{count_by}
 use Rattle.std.proofs.lemmas.List.Sums.{sum_by_push}
-use Rattle.duplicates_engine.specs.declared.tally.Total.{Total}
-use Rattle.duplicates_engine.specs.Counts.{Counts, CountsLine}
-use Rattle.duplicates_engine.specs.Longer.{is_longer}
+use Rattle.duplicates_engine.proofs.Common.{Total, Counts, CountsLine, is_longer}
 
 -- the counts of no lines
 abbrev pub nothing : Total

@@ -1,11 +1,8 @@
 -- What was read of the inputs where a run ends.
 use Rattle.std.proofs.Common.{◌≡◌, ℕ, ◌+◌, ◌-◌, ◌^◌, min, List, [], ◌∷◌, ◌++◌, Option, Some, None, refl, sym, ◌∙◌, ap, subst, append_assoc, append-nil, arith}
-use Rattle.std.proofs.lemmas.Grind.{flat_map-append}
-use Rattle.std.specs.Prelude.{IfSome}
-use Rattle.lines.specs.Lines.{lines_by}
+use Rattle.duplicates_engine.proofs.Common.{flat_map-append, IfSome, lines_by, AreOfFirst}
 use Rattle.lines.specs.Reading.{Ends, TakesLongBy}
 use Rattle.lines.proofs.TakenLemmas.{IsReadFrom-taken, IsReadToLong-from}
-use Rattle.duplicates_engine.specs.Causes.{AreOfFirst}
 use Rattle.duplicates_engine.specs.Inputs.{NoneComes, lines_in, AreAllRead, AreFirstRead, AreReadToLong, StandBeforeLong}
 use Rattle.duplicates_engine.proofs.InputLemmas.{Stands, IsReading, whole-of, done-more}
 

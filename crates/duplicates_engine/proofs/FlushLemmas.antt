@@ -1,19 +1,6 @@
 -- What a flush behind a run leaves of its promises.
 use Rattle.std.proofs.Common.{ℕ, List, Option, Result, Ok, Err, refl}
-use Rattle.std.specs.Prelude.{IfOk, IfErr}
-use Rattle.std.specs.Io.KnownBytes.{Keeps}
-use Rattle.std.proofs.KnownBytes.{Appends-kept}
-use Rattle.lines.proofs.WritingLemmas.{Begins-whole}
-use Rattle.std.specs.declared.io.ErrorKind.{ErrorKind}
-use Rattle.duplicates_engine.specs.declared.fault.Fault.{Fault}
-use Rattle.duplicates_engine.specs.declared.fault.Fault.TheVariants.{TooLong, Memory, Full, Open, Input, Output}
-use Rattle.duplicates_engine.specs.declared.options.Options.{Options}
-use Rattle.duplicates_engine.specs.declared.sieve.Sieve.{Ghosts}
-use Rattle.duplicates_engine.specs.declared.tally.Total.{Total}
-use Rattle.duplicates_engine.specs.Faults.{IsOfWriter, IsReadAt}
-use Rattle.duplicates_engine.specs.Inputs.{AreFirstRead}
-use Rattle.duplicates_engine.specs.Kept.{text_of, EndsEarly, KeepsNew}
-use Rattle.duplicates_engine.specs.Longer.{limit_of}
+use Rattle.duplicates_engine.proofs.Common.{IfOk, IfErr, Keeps, Appends-kept, Begins-whole, ErrorKind, Fault, TooLong, Memory, Full, Open, Input, Output, Options, Ghosts, Total, IsOfWriter, IsReadAt, AreFirstRead, text_of, EndsEarly, KeepsNew, limit_of}
 use Rattle.duplicates_engine.proofs.CauseLemmas.{caused-writer}
 use Rattle.duplicates_engine.proofs.EndLemmas.{first-all, first-long}
 use Rattle.duplicates_engine.proofs.WriteLemmas.{from-begins, to-begins, writer-system, reached-at}

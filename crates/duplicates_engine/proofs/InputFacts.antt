@@ -1,10 +1,7 @@
 -- What is read of several inputs: of each relation cases that hold, and the nearest that don't.
 use Rattle.std.proofs.Common.{◌≡◌, ℕ, ◌+◌, ◌-◌, ◌^◌, min, List, [], ◌∷◌, ◌++◌, length, length-append, get_or, Option, Some, None, refl, ap, arith}
-use Rattle.std.specs.Prelude.{codes}
+use Rattle.duplicates_engine.proofs.Common.{codes, lines_by, TooLong, Memory, Full, Open, Input, Output, IsReadAt, IsWrittenAt}
 use Rattle.std.specs.declared.io.ErrorKind.TheVariants as kind
-use Rattle.lines.specs.Lines.{lines_by}
-use Rattle.duplicates_engine.specs.declared.fault.Fault.TheVariants.{TooLong, Memory, Full, Open, Input, Output}
-use Rattle.duplicates_engine.specs.Faults.{IsReadAt, IsWrittenAt}
 use Rattle.duplicates_engine.specs.Inputs.{Opens, NoneComes, lines_in, AreAllRead, AreFirstIn}
 use Rattle.duplicates_engine.proofs.Cases.{HoldsOfNone}
 

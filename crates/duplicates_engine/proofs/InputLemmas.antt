@@ -1,11 +1,7 @@
 -- How far the inputs were read, from step to step.
 use Rattle.std.proofs.Common.{◌≡◌, ℕ, ◌-◌, ◌^◌, min, List, [], ◌∷◌, ◌++◌, length, length-append, Option, Some, None, refl, sym, ◌∙◌, ap, subst, append_assoc, append-nil, arith}
-use Rattle.std.proofs.lemmas.Grind.{flat_map-append}
-use Rattle.std.specs.Io.KnownBytes.{prepend_known}
-use Rattle.lines.specs.Lines.{lines_by}
-use Rattle.lines.specs.Reading.{Ends}
+use Rattle.duplicates_engine.proofs.Common.{flat_map-append, prepend_known, lines_by, Ends, Opens, lines_in, TakesNext, OpensNext}
 use Rattle.lines.proofs.TakenLemmas.{TakesLinesBy, TakesLines-nil, TakesLines-more, IsReadWhole-from}
-use Rattle.duplicates_engine.specs.Inputs.{Opens, lines_in, TakesNext, OpensNext}
 
 -- of the inputs those that are done have the earlier lines, and these lines were taken of the next,
 -- which is open

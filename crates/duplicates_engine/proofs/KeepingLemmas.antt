@@ -1,21 +1,9 @@
 -- A run that stands half-way, from step to step, and how it ends.
 use Rattle.std.proofs.Common.{◌≡◌, ℕ, ◌+◌, ◌-◌, ◌^◌, ◌≤◌, min, length, Bool, List, [], Option, refl, ◌∙◌, ap}
 use Rattle.std.proofs.lemmas.Bool.{both_ways}
-use Rattle.std.proofs.lemmas.List.Elements.{All-nil}
-use Rattle.std.specs.Io.KnownBytes.{Appends, Keeps}
+use Rattle.duplicates_engine.proofs.Common.{All-nil, Appends, Keeps, Waiting, left_of, KnowsEnd, AreShort, Fault, TooLong, Options, Ghosts, Total, Counts, IsOfSystem, limit_of, HasSifted, text_of, KeepsNew, KeepsUntil}
 use Rattle.std.proofs.KnownBytes.{Appends-nil, Appends-kept}
-use Rattle.lines.specs.Reading.{Waiting, left_of, KnowsEnd, AreShort}
-use Rattle.duplicates_engine.specs.declared.fault.Fault.{Fault}
-use Rattle.duplicates_engine.specs.declared.fault.Fault.TheVariants.{TooLong}
-use Rattle.duplicates_engine.specs.declared.options.Options.{Options}
-use Rattle.duplicates_engine.specs.declared.sieve.Sieve.{Ghosts}
-use Rattle.duplicates_engine.specs.declared.tally.Total.{Total}
-use Rattle.duplicates_engine.specs.Counts.{Counts}
-use Rattle.duplicates_engine.specs.Faults.{IsOfSystem}
 use Rattle.duplicates_engine.specs.Inputs.{Opens, IsFresh, NoneComes, OpensNext, EndsAll, FindsLong}
-use Rattle.duplicates_engine.specs.Longer.{limit_of}
-use Rattle.duplicates_engine.specs.Sieves.{HasSifted}
-use Rattle.duplicates_engine.specs.Kept.{text_of, KeepsNew, KeepsUntil}
 use Rattle.duplicates_engine.proofs.CountLemmas.{nothing, counts-nil}
 use Rattle.duplicates_engine.proofs.InputLemmas.{IsReading, opens-left, reading-first, reading-next}
 use Rattle.duplicates_engine.proofs.EndLemmas.{none-read, all-read, first-read, first-none, long-read}

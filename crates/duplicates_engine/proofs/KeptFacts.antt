@@ -1,10 +1,6 @@
 -- What a run writes and counts: of each definition cases that hold, and the nearest that don't.
 use Rattle.std.proofs.Common.{◌≡◌, ℕ, ◌-◌, ◌^◌, Bool, true, false, List, [], ◌∷◌, refl, arith}
-use Rattle.std.specs.Prelude.{codes}
-use Rattle.duplicates_engine.specs.declared.options.Written.TheVariants.{New, HeldBack, Nothing}
-use Rattle.duplicates_engine.specs.Counts.{Counts}
-use Rattle.duplicates_engine.specs.Kept.{text_of}
-use Rattle.duplicates_engine.specs.Longer.{limit_of}
+use Rattle.duplicates_engine.proofs.Common.{codes, New, HeldBack, Nothing, Counts, text_of, limit_of}
 use Rattle.duplicates_engine.proofs.Cases.{asked, lines, long, passing, replies, total}
 
 -- the new lines are written with their ends, or those that were held back, or none. A longer line

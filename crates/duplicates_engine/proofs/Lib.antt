@@ -5,6 +5,7 @@ mod CauseFacts
 mod CauseLemmas
 mod ChoiceFacts
 mod ChoiceLemmas
+mod Common
 mod CountLemmas
 mod EndLemmas
 mod FlushLemmas

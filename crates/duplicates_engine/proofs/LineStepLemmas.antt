@@ -1,20 +1,9 @@
 -- One more line of a run.
 use Rattle.std.proofs.Common.{◌≡◌, ℕ, ◌≤◌, length, Bool, false, List, [], ◌∷◌, ◌++◌, Option, Ok, Err, sym, ◌∙◌, ap, subst}
 use Rattle.std.proofs.lemmas.List.Elements.{All-append, All-from_recursion}
-use Rattle.std.specs.Io.KnownBytes.{Appends, Keeps}
+use Rattle.duplicates_engine.proofs.Common.{Appends, Keeps, Waiting, left_of, KnowsEnd, AreShort, Fault, Options, Ghosts, Total, CountsLine, IsWrittenAt, AreFirstRead, TakesNext, text_of, piece, Writes, KeepsUntil, is_longer, limit_of, SiftsShort, IsNew, HasSifted}
 use Rattle.std.proofs.KnownBytes.{Appends-trans}
-use Rattle.lines.specs.Reading.{Waiting, left_of, KnowsEnd, AreShort}
 use Rattle.lines.proofs.WritingLemmas.{Begins-after}
-use Rattle.duplicates_engine.specs.declared.fault.Fault.{Fault}
-use Rattle.duplicates_engine.specs.declared.options.Options.{Options}
-use Rattle.duplicates_engine.specs.declared.sieve.Sieve.{Ghosts}
-use Rattle.duplicates_engine.specs.declared.tally.Total.{Total}
-use Rattle.duplicates_engine.specs.Counts.{CountsLine}
-use Rattle.duplicates_engine.specs.Faults.{IsWrittenAt}
-use Rattle.duplicates_engine.specs.Inputs.{AreFirstRead, TakesNext}
-use Rattle.duplicates_engine.specs.Kept.{text_of, piece, Writes, KeepsUntil}
-use Rattle.duplicates_engine.specs.Longer.{is_longer, limit_of}
-use Rattle.duplicates_engine.specs.Sieves.{SiftsShort, IsNew, HasSifted}
 use Rattle.duplicates_engine.proofs.CountLemmas.{counts-more}
 use Rattle.duplicates_engine.proofs.InputLemmas.{IsReading, reading-more}
 use Rattle.duplicates_engine.proofs.EndLemmas.{first-read}

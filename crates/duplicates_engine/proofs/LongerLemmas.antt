@@ -6,8 +6,7 @@ use Rattle.std.proofs.lemmas.List.Elements.{filter-append}
 use Rattle.std.proofs.lemmas.List.Filters.{length-filter_both}
 use Rattle.std.proofs.lemmas.Map.Made.{distinct_count-le}
 use Rattle.std.specs.Str.{bytes_eq}
-use Rattle.duplicates_engine.specs.Choices.{AllLinesLaw, LastLinesLaw}
-use Rattle.duplicates_engine.specs.Longer.{is_longer, short_lines}
+use Rattle.duplicates_engine.proofs.Common.{AllLinesLaw, LastLinesLaw, is_longer, short_lines}
 
 -- a line is longer where it has more bytes, and only there
 pub longer-is : (longest : ℕ) (line : List ℕ) → longest < length line

@@ -1,14 +1,10 @@
 -- Lines that a plain filter sifted, as one list of commands.
 use Rattle.std.proofs.Common.{◌⊎◌, inl, inr, ◌<◌, ◌≤◌, ℕ, Bool, List, [], ◌∷◌, length, map, refl, sym, subst}
-use Rattle.std.proofs.lemmas.Bool.{cases_lt}
+use Rattle.duplicates_engine.proofs.Common.{cases_lt, Insert, Filter, CarriesOut, SiftsAll, SiftsShort}
 use Rattle.std.specs.declared.hash.Hasher as hasher
-use Rattle.bloom_parts.specs.Operations.{Insert}
-use Rattle.bloom_plain.specs.Filter.{Filter}
 use Rattle.bloom_plain.specs.Laws.{JoinedListsLaw}
-use Rattle.bloom_plain.specs.Replies.{CarriesOut}
 use Rattle.duplicates_engine.specs.Plain.{line_hash, inserts_line, inserts_lines, SiftedLaw}
 use Rattle.duplicates_engine.specs.Longer.{short_lines, short_replies}
-use Rattle.duplicates_engine.specs.Sieves.{SiftsAll, SiftsShort}
 use Rattle.duplicates_engine.proofs.LongerLemmas.{longer-is, not-longer}
 
 module _ {S H : Type 0} (h : hasher.Ghosts H) (build : S → H) (joined : JoinedListsLaw S) where

@@ -1,14 +1,12 @@
 -- What one line does to a filter that rotates.
 use Rattle.std.proofs.Common.{◌≡◌, ◌<◌, ◌≤◌, ℕ, suc, Bool, true, false, ◌||◌, cond, List, [], ◌∷◌, ◌++◌, length, map, Some, nat_eq, refl, sym, ◌∙◌, ap, subst, arith}
-use Rattle.std.proofs.lemmas.Bool.{true≢false}
+use Rattle.duplicates_engine.proofs.Common.{true≢false, Kind, IsNew}
 use Rattle.std.proofs.lemmas.List.{map-append}
 use Rattle.std.proofs.lemmas.Slice.Eq.{bytes_eq-Decides}
 use Rattle.std.specs.Cmp.{unsigned_Decides}
 use Rattle.std.specs.Set.{distinct_count, unique_keys, is_member}
 use Rattle.std.specs.Str.{bytes_eq}
-use Rattle.bloom_growing.specs.Kinds.{Kind}
 use Rattle.bloom_growing.specs.Rotating.{Rotating, either_contains, Receives, ReceivesAll}
-use Rattle.duplicates_engine.specs.Sieves.{IsNew}
 
 module _ (hash_of : List ℕ → ℕ) where
   -- a line that is there has its hash there

@@ -1,16 +1,6 @@
 -- Whole runs, and runs up to a fault: of each relation cases that hold, and the nearest that don't.
 use Rattle.std.proofs.Common.{◌≡◌, ◌≤◌, ℕ, Bool, List, [], ◌∷◌, ◌++◌, length, get_or, Some, refl, ◌∙◌, ap, arith}
-use Rattle.std.proofs.lemmas.List.Elements.{All-from_recursion, All-nil}
-use Rattle.std.specs.Prelude.{codes}
-use Rattle.lines.specs.Lines.{lines_by}
-use Rattle.std.specs.declared.io.ErrorKind.{ErrorKind}
-use Rattle.duplicates_engine.specs.declared.fault.Fault.{Fault}
-use Rattle.duplicates_engine.specs.declared.fault.Fault.TheVariants.{Full, Memory}
-use Rattle.duplicates_engine.specs.declared.options.Written.TheVariants.{New}
-use Rattle.duplicates_engine.specs.declared.sieve.Sieve.{Ghosts}
-use Rattle.duplicates_engine.specs.declared.tally.Total.{Total}
-use Rattle.duplicates_engine.specs.Inputs.{lines_in}
-use Rattle.duplicates_engine.specs.Kept.{text_of, KeepsNew, EndsEarly}
+use Rattle.duplicates_engine.proofs.Common.{All-from_recursion, All-nil, codes, lines_by, ErrorKind, Fault, Full, Memory, New, Ghosts, Total, lines_in, text_of, KeepsNew, EndsEarly}
 use Rattle.duplicates_engine.proofs.Cases.{asked, lines, total}
 use Rattle.duplicates_engine.proofs.SieveFacts.{keeps, recalls_none, sifted-all}
 use Rattle.duplicates_engine.proofs.SiftLemmas.{sifted-nil}

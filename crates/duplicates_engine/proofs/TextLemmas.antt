@@ -1,8 +1,6 @@
 -- The text of the lines that are written.
 use Rattle.std.proofs.Common.{◌≡◌, ℕ, Bool, true, false, cond, List, [], ◌∷◌, ◌++◌, length, refl, ◌∙◌, ap, append-nil, arith}
-use Rattle.std.proofs.lemmas.Grind.{flat_map-append}
-use Rattle.duplicates_engine.specs.declared.options.Options.{Options}
-use Rattle.duplicates_engine.specs.Kept.{writes_line, chosen, lines_text, text_of, piece}
+use Rattle.duplicates_engine.proofs.Common.{flat_map-append, Options, writes_line, chosen, lines_text, text_of, piece}
 
 -- a line that is written or not stays at the front
 at-front : (b : Bool) (line : List ℕ) (all first last : List (List ℕ)) → all ≡ first ++ last

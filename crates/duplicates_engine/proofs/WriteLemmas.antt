@@ -1,15 +1,7 @@
 -- What was written of a text at each fault.
 use Rattle.std.proofs.Common.{ℕ, ◌≡◌, List, Option, Ok, Err, refl}
-use Rattle.std.specs.Io.KnownBytes.{Appends}
-use Rattle.std.specs.declared.io.ErrorKind.{ErrorKind}
+use Rattle.duplicates_engine.proofs.Common.{Appends, ErrorKind, Begins-whole, Fault, TooLong, Memory, Full, Open, Input, Output, TellsWrite, IsOfSystem, IsOfWriter, IsWrittenAt, IsReadAt, AreFirstRead, Writes}
 use Rattle.lines.specs.Writing.{AppendsPart, Begins}
-use Rattle.lines.proofs.WritingLemmas.{Begins-whole}
-use Rattle.duplicates_engine.specs.declared.fault.Fault.{Fault}
-use Rattle.duplicates_engine.specs.declared.fault.Fault.TheVariants.{TooLong, Memory, Full, Open, Input, Output}
-use Rattle.duplicates_engine.specs.Causes.{TellsWrite}
-use Rattle.duplicates_engine.specs.Faults.{IsOfSystem, IsOfWriter, IsWrittenAt, IsReadAt}
-use Rattle.duplicates_engine.specs.Inputs.{AreFirstRead}
-use Rattle.duplicates_engine.specs.Kept.{Writes}
 
 -- at a fault of a writer a beginning was written
 pub from-begins : (fault : Fault) (text written : List ℕ) → IsOfWriter fault

@@ -1,15 +1,7 @@
 -- Filters and passes that the facts of this crate share.
 use Rattle.std.proofs.Common.{◌≡◌, ℕ, ◌/◌, ◌%◌, ◌^◌, ◌<◌, true, false, eqb, List, [], ◌∷◌, inl, inr, refl, sym, ap, ◌∙◌, arith, lit<, lit≤}
-use Rattle.std.proofs.Math.Bool.{or-false}
-use Rattle.std.proofs.lemmas.Bool.{both_ways, cases_lt, eqb-true}
-use Rattle.atomic_table.specs.Seated.{TableId}
-use Rattle.bloom_parts.specs.Content.{bit_is_on, content}
-use Rattle.bloom_parts.proofs.PublishedLemmas.{bit_is_on-mask, content-past}
-use Rattle.bloom_plain.specs.Filter.{Filter}
+use Rattle.fastbloom.proofs.Common.{or-false, both_ways, cases_lt, eqb-true, TableId, bit_is_on, content, bit_is_on-mask, content-past, Filter, SeatedFilter, Sight, IsSamePass, set_of, SharedFilter}
 use Rattle.fastbloom.specs.declared.parallel.shape.Shape.{Shape}
-use Rattle.fastbloom.specs.Passes.{SeatedFilter, Sight, IsSamePass}
-use Rattle.fastbloom.specs.Sets.{set_of}
-use Rattle.bloom_plain.specs.SharedFilters.{SharedFilter}
 use Rattle.fastbloom.proofs.SeatedLemmas.Words.{content-word}
 
 -- a plain filter of these words, of three hashes, whose hasher is a number

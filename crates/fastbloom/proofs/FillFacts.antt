@@ -4,15 +4,12 @@
 use Rattle.std.proofs.Common.{◌≡◌, ◌⊎◌, inl, inr, ℕ, ◌^◌, ◌<◌, true, false, ◌||◌, List, [], ◌∷◌, refl, sym, ap, ◌∙◌, arith, lit<}
 use Rattle.std.proofs.lemmas.Grind.{common_steps}
 use Rattle.std.proofs.lemmas.List.Elements.{All-from_recursion}
-use Rattle.std.specs.List.{Contains}
+use Rattle.fastbloom.proofs.Common.{Contains, chain, positions, AnyCuttingLaw, FilledByInsertsLaw, FilledByUnionLaw, FilledContainsLaw, HaveSameHashes, IsFilledWith, IsPositionOfOne, UnionOfPositionsLaw, hashes_of, positions_of_all, words_of}
 use Rattle.std.specs.Prelude.{IsTrue}
-use Rattle.bloom_parts.specs.Chain.{chain}
 use Rattle.bloom_parts.specs.Content.{content, AreWords}
-use Rattle.bloom_parts.specs.Places.{positions}
 use Rattle.bloom_plain.specs.Filter.{Filter, Unites, contains, same_filter}
 use Rattle.bloom_plain.specs.Replies.{InsertsAll}
 use Rattle.bloom_plain.proofs.CaseLemmas.{content-case, positions-past}
-use Rattle.fastbloom.specs.Fill.{AnyCuttingLaw, FilledByInsertsLaw, FilledByUnionLaw, FilledContainsLaw, HaveSameHashes, IsFilledWith, IsPositionOfOne, UnionOfPositionsLaw, hashes_of, positions_of_all, words_of}
 use Rattle.fastbloom.proofs.Cases.{plain, shape}
 
 -- the number of words and the number of hashes

@@ -1,17 +1,13 @@
 -- The laws of filters that were filled with hashes.
 use Rattle.std.proofs.Common.{◌≡◌, inl, inr, ℕ, ◌*◌, Bool, true, false, ◌||◌, cond, List, [], ◌∷◌, map, Some, None, unwrap_or, refl, sym, ◌∙◌, ap, arith}
 use Rattle.std.proofs.Math.Bool.{or_assoc, or_comm}
-use Rattle.std.proofs.lemmas.Bool.{or_cases}
+use Rattle.fastbloom.proofs.Common.{or_cases, Contains, content, positions, are_in, words_of, hashes_of, positions_of_all, IsPositionOfOne, HaveSameHashes, UnionOfPositionsLaw, AnyCuttingLaw, FilledByInsertsLaw, FilledByUnionLaw, FilledContainsLaw}
 use Rattle.std.proofs.lemmas.List.Elements.{Contains-append_cases, Contains-append_right, Contains-push_cases}
-use Rattle.std.specs.List.{Contains}
-use Rattle.bloom_parts.specs.Content.{content}
 use Rattle.bloom_parts.specs.Deciders.{last_decision}
 use Rattle.bloom_parts.specs.Operations.{Insert, decides, state_after}
-use Rattle.bloom_parts.specs.Places.{positions, are_in}
 use Rattle.bloom_parts.proofs.PublishedLemmas.{part-to, unwrap_or-option_or}
 use Rattle.bloom_plain.specs.Filter.{num_bits_of}
 use Rattle.bloom_plain.specs.Laws.{EqualContentLaw}
-use Rattle.fastbloom.specs.Fill.{words_of, hashes_of, positions_of_all, IsPositionOfOne, HaveSameHashes, UnionOfPositionsLaw, AnyCuttingLaw, FilledByInsertsLaw, FilledByUnionLaw, FilledContainsLaw}
 use Rattle.fastbloom.proofs.FillLemmas.{positions_of_all-append, filled-same, filled-union}
 
 -- two truth values that imply each other are equal

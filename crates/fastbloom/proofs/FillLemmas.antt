@@ -1,16 +1,10 @@
 -- What fills a filter: no hash, one hash more, and the hashes of another filter.
 use Rattle.std.proofs.Common.{◌≡◌, ℕ, ◌+◌, ◌*◌, ◌||◌, List, [], ◌∷◌, ◌++◌, length, map, replicate, refl, sym, subst, ◌∙◌, ap, arith, append_assoc}
-use Rattle.std.proofs.Math.Bool.{or_assoc}
-use Rattle.std.proofs.lemmas.List.{map-append, length-replicate}
+use Rattle.fastbloom.proofs.Common.{or_assoc, map-append, length-replicate, concat, All, content, positions, words_of, hashes_of, positions_of_all, IsFilledWith}
 use Rattle.std.proofs.lemmas.List.Elements.{All-head, All-push, All-rest, All-same}
-use Rattle.std.specs.List.{concat}
-use Rattle.std.specs.Prelude.{All}
-use Rattle.bloom_parts.specs.Content.{content}
-use Rattle.bloom_parts.specs.Places.{positions}
 use Rattle.bloom_parts.proofs.PublishedLemmas.{content-zeros}
 use Rattle.bloom_plain.specs.Filter.{Filter, SameShape, Unites}
 use Rattle.fastbloom.specs.declared.parallel.shape.Shape.{Shape}
-use Rattle.fastbloom.specs.Fill.{words_of, hashes_of, positions_of_all, IsFilledWith}
 
 -- the positions of two lists of hashes, one after the other
 pub positions_of_all-append : (n k : ℕ) (xs ys : List ℕ) (p : ℕ) → positions_of_all n k (xs ++ ys) p

@@ -1,15 +1,12 @@
 -- The shape of a shared filter that is made for the items of a rate's builder.
 use Rattle.std.proofs.Common.{◌≡◌, ◌∙◌, ◌*◌, ◌≤◌, ℕ, Option, max, replicate, length, sym, subst, ap, arith}
 use Rattle.std.proofs.Math.Nat.{max_comm}
-use Rattle.std.proofs.lemmas.List.{length-replicate}
+use Rattle.fastbloom.proofs.Common.{length-replicate, SharedWords, BeganWith, HasFormFor, SharedFilter, HasFormOf}
 use Rattle.bloom_parts.specs.declared.error.FilterError.{FilterError}
 use Rattle.bloom_parts.specs.declared.math.rate.Rate.{Rate}
-use Rattle.bloom_parts.specs.Made.{SharedWords, BeganWith}
 use Rattle.bloom_parts.specs.Rates.{num_of, den_of}
 use Rattle.bloom_parts.specs.Sizing.{IsSizeFor, hashes_for}
 use Rattle.bloom_plain.specs.Builders.{RateStart, IsSizeOf, RefusesAs, size_refusal, words_for, sized_filter, empty_start}
-use Rattle.fastbloom.specs.Shared.{HasFormFor}
-use Rattle.bloom_plain.specs.SharedFilters.{SharedFilter, HasFormOf}
 
 -- a builder's parts, which came out of the plain builder that it holds
 module _ {S : Type 0} (start plain : RateStart S) (of : plain ≡ start) where

@@ -1,8 +1,7 @@
 -- Many items of an iterator, each inserted into a filter that threads share.
 use Rattle.std.proofs.Common.{◌≡◌, ℕ, Option, subst}
 use Rattle.std.specs.Iterator.Runs.{WholeRun}
-use Rattle.fastbloom.specs.Shared.{MakesInserts}
-use Rattle.bloom_plain.specs.SharedFilters.{SharedFilter}
+use Rattle.fastbloom.proofs.Common.{MakesInserts, SharedFilter}
 
 module _ {S T : Type 0} (hash_of : S → T → ℕ) (f : SharedFilter S) where
   -- a filter has the form for as many items as an iterator has left, and the items of an equal

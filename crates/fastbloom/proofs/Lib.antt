@@ -1,4 +1,5 @@
 mod Cases
+mod Common
 mod DataLemmas
 mod FillFacts
 mod FillLawLemmas

@@ -1,13 +1,7 @@
 -- What contracts say of look-ups, of passes that meet, and of words in the end: cases that hold,
 -- and the nearest that don't. Hash 1 has the positions 0 and 20 among 64 bits.
 use Rattle.std.proofs.Common.{◌≡◌, ℕ, zero, suc, ◌+◌, ◌/◌, ◌<◌, Bool, true, false, ◌||◌, List, [], ◌∷◌, slice_index, inl, inr, refl, ap, ◌∙◌, arith, lit<, lit≤}
-use Rattle.std.proofs.lemmas.Bool.{both_ways, or_cases}
-use Rattle.atomic_table.specs.Seated.{TableId}
-use Rattle.bloom_parts.specs.Chain.{chain}
-use Rattle.bloom_parts.specs.Content.{content}
-use Rattle.bloom_parts.specs.Places.{place}
-use Rattle.fastbloom.specs.Passes.{Closes, Finds, GrowsBeside, Meets, Sight, known_of, sure_of}
-use Rattle.fastbloom.specs.Sets.{set_of}
+use Rattle.fastbloom.proofs.Common.{both_ways, or_cases, TableId, chain, content, place, Closes, Finds, GrowsBeside, Meets, Sight, known_of, sure_of, set_of}
 use Rattle.fastbloom.proofs.Cases.{nothing, one-from, only-first, pass, same-pass, single-from, table}
 
 -- from a pass that knows nothing of a word of zeros

@@ -1,18 +1,8 @@
 -- What contracts say of seated filters, of passes, and of inserts by them: cases that hold, and the
 -- nearest that don't. Hash 1 has the positions 0 and 20 among 64 bits.
 use Rattle.std.proofs.Common.{◌≡◌, ℕ, ◌^◌, Bool, true, false, ◌||◌, eqb, List, [], ◌∷◌, length, slice_index, inl, inr, refl, sym, ap, ◌∙◌, arith, lit<, lit≤}
-use Rattle.std.proofs.Math.Bool.{or-false}
-use Rattle.std.proofs.lemmas.Bool.{both_ways}
-use Rattle.atomic_table.specs.Seated.{TableId}
-use Rattle.bloom_parts.proofs.PublishedLemmas.{part-from}
-use Rattle.bloom_parts.specs.Chain.{chain}
-use Rattle.bloom_parts.specs.Content.{content}
-use Rattle.bloom_parts.specs.Places.{positions, are_in}
-use Rattle.fastbloom.specs.Passes.{InsertsAs, IsNewPass, IsSamePass, IsSure, Sight, contains_known, seated_num_bits, seated_positions, sight_of, sure_of}
-use Rattle.fastbloom.specs.Plays.{FilterSeat}
+use Rattle.fastbloom.proofs.Common.{or-false, both_ways, TableId, part-from, chain, content, positions, are_in, InsertsAs, IsNewPass, IsSamePass, IsSure, Sight, contains_known, seated_num_bits, seated_positions, sight_of, sure_of, FilterSeat, set_of, Note, Pass}
 use Rattle.fastbloom.specs.Seats.{IsPassSeat, IsStanding}
-use Rattle.fastbloom.specs.Sets.{set_of}
-use Rattle.fastbloom.specs.declared.seated.rule.Role.TheVariants.{Note, Pass}
 use Rattle.fastbloom.specs.declared.seated.rule.Size.{Size}
 use Rattle.fastbloom.proofs.Cases.{nothing, one-from, pass, same-pass, seated, table}
 

@@ -1,12 +1,10 @@
 -- How many words a reading of a vector gives, and how each was found.
 use Rattle.std.proofs.Common.{◌≡◌, ◌∙◌, ℕ, zero, suc, ◌+◌, ◌≤◌, List, [], ◌∷◌, Some, length, true, ◌<◌, ap, refl, slice_get, sym, subst, inl, inr, arith}
-use Rattle.std.proofs.lemmas.Bool.{cases_eq}
+use Rattle.fastbloom.proofs.Common.{cases_eq, FoundByLoad, SharedWords, SharedFilter}
 use Rattle.std.specs.Iterator.{Yields}
 use Rattle.std.specs.Iterator.Runs.{Run, YieldsRun}
-use Rattle.bloom_parts.specs.Made.{FoundByLoad, SharedWords}
 use Rattle.bloom_parts.specs.Reading.{Reading, ReadsNext}
 use Rattle.bloom_steps.specs.Loaded.{WereLoaded}
-use Rattle.bloom_plain.specs.SharedFilters.{SharedFilter}
 
 -- a reading after some words: it stays on its vector, has gone on by as many words, and isn't past
 -- the last

@@ -3,14 +3,8 @@
 use Rattle.std.proofs.Common.{◌≡◌, ℕ, zero, suc, ◌/◌, ◌^◌, ◌≤◌, ◌⊎◌, true, false, ◌&&◌, eqb, List, [], ◌∷◌, length, slice_index, inl, inr, refl, sym, ap, ◌∙◌, subst, arith, lit<, lit≤}
 use mathlib.Core.Option.{some, some-ne-none}
 use lib.ListN.{get_elem?}
-use Rattle.std.proofs.lemmas.Bool.{and_parts, both_ways, eqb-true, or_cases}
-use Rattle.bloom_parts.specs.Content.{bit_is_on, content}
-use Rattle.bloom_parts.proofs.PublishedLemmas.{bit_is_on-mask}
-use Rattle.fastbloom.specs.Rule.{Has, IsGained, IsSeated, Standing, first_view}
-use Rattle.fastbloom.specs.Sets.{set_of}
+use Rattle.fastbloom.proofs.Common.{and_parts, both_ways, eqb-true, or_cases, bit_is_on, content, bit_is_on-mask, Has, IsGained, IsSeated, Standing, first_view, set_of, First, Note, Pass, Sets}
 use Rattle.fastbloom.specs.declared.seated.rule.Role.{Role}
-use Rattle.fastbloom.specs.declared.seated.rule.Role.TheVariants.{First, Note, Pass}
-use Rattle.fastbloom.specs.declared.seated.rule.Sets.{Sets}
 use Rattle.fastbloom.proofs.Cases.{one-from, single-from}
 use Rattle.fastbloom.proofs.SeatedLemmas.Rules.Seats.{only-view}
 use Rattle.fastbloom.proofs.SeatedLemmas.Words.{content-with_bits}

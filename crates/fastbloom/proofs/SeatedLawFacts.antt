@@ -1,19 +1,12 @@
 -- The laws of seated filters, each used where its premises hold by the least. Hash 1 has the
 -- positions 0 and 20 among 64 bits.
 use Rattle.std.proofs.Common.{◌≡◌, ℕ, ◌≤◌, Bool, true, false, [], ◌∷◌, inl, inr, refl, lit<}
-use Rattle.bloom_parts.proofs.PublishedLemmas.{part-from}
-use Rattle.bloom_parts.specs.Chain.{chain}
-use Rattle.bloom_parts.specs.Content.{content}
+use Rattle.fastbloom.proofs.Common.{part-from, chain, content, are_in, with_bits, IsSeated, set_of, First, Note, Pass, Spent}
 use Rattle.bloom_parts.specs.Deciders.{state}
-use Rattle.bloom_parts.specs.Places.{are_in}
 use Rattle.bloom_steps.specs.Steps.{step_decides}
 use Rattle.bloom_steps.specs.declared.steps.vocabulary.Step.TheVariants.{Or}
 use Rattle.fastbloom.specs.Passes.{Finds, InsertsAs, IsSure, Knows, Meets, Sight, known_of, seated_positions, sure_of}
-use Rattle.fastbloom.specs.Plays.{with_bits}
-use Rattle.fastbloom.specs.Rule.{IsSeated}
 use Rattle.fastbloom.specs.SeatedLaws.{FewLaw, InsertedLaw, KnownLaw, MetLaw, OrLaw, StaysLaw, SureFoundLaw, is_pass, or_decides}
-use Rattle.fastbloom.specs.Sets.{set_of}
-use Rattle.fastbloom.specs.declared.seated.rule.Role.TheVariants.{First, Note, Pass, Spent}
 use Rattle.fastbloom.proofs.Cases.{pass, seated}
 use Rattle.fastbloom.proofs.RuleFacts.{alone, at, view}
 

@@ -1,9 +1,8 @@
 -- What contracts say of filters that threads share: cases that hold, and the nearest that don't.
 -- How many sixty-fourths of a halving one half has is a premise here; `bloom_parts` shows it.
 use Rattle.std.proofs.Common.{◌≡◌, ◌↔◌, ◌∙◌, ℕ, ◌+◌, List, [], ◌∷◌, length, replicate, refl, ap, subst, arith, lit<}
-use Rattle.bloom_parts.specs.Made.{BeganWith}
+use Rattle.fastbloom.proofs.Common.{BeganWith, RateStart, words_for, empty_start, sized_filter, IsSizeOf}
 use Rattle.bloom_parts.specs.Sizing.{IsHalvings, size_for}
-use Rattle.bloom_plain.specs.Builders.{RateStart, words_for, empty_start, sized_filter, IsSizeOf}
 use Rattle.bloom_steps.specs.LiveSteps.{TakesWordsOf, WereInserted}
 use Rattle.fastbloom.specs.Shared.{HasFormFor, MakesInserts, TakesWords}
 use Rattle.bloom_plain.specs.SharedFilters.{HasFormOf, HaveSameShape}

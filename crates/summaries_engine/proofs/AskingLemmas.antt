@@ -1,20 +1,10 @@
 -- Keys of one input that are asked for one after the other, with the answers written so far.
 use Rattle.std.proofs.Common.{◌≡◌, ℕ, ◌+◌, Bool, false, List, [], ◌∷◌, ◌++◌, filter, flat_map, Ok, Err, Option, refl, sym, subst}
-use Rattle.std.proofs.lemmas.Grind.{flat_map-append}
+use Rattle.summaries_engine.proofs.Common.{flat_map-append, Appends-kept, Appends-nil, Appends-trans, Appends, Keeps, AnyFilter, has_hash, Waiting, Ends, KnowsEnd, TakesShortBy, left_of, AppendsPart, IsReadWhole-from, Wanted, AnswersAll, is_wanted, wanted_text, hash_in}
 use Rattle.std.proofs.lemmas.List.Elements.{filter-append}
-use Rattle.std.proofs.KnownBytes.{Appends-kept, Appends-nil, Appends-trans}
 use Rattle.std.proofs.Common.{◌∙◌, ap, length}
 use Rattle.std.specs.Prelude.{IfOk, OnOk, Result}
-use Rattle.std.specs.Io.KnownBytes.{Appends, Keeps}
-use Rattle.summaries_engine.specs.declared.kinds.AnyFilter.{AnyFilter}
-use Rattle.summaries_engine.specs.Kinds.{has_hash}
-use Rattle.lines.specs.Reading.{Waiting, Ends, KnowsEnd, TakesShortBy, left_of}
-use Rattle.lines.specs.Writing.{AppendsPart}
-use Rattle.lines.proofs.TakenLemmas.{IsReadWhole-from}
 use Rattle.lines.proofs.WritingLemmas.{Begins-whole}
-use Rattle.summaries_engine.specs.declared.answers.Wanted.{Wanted}
-use Rattle.summaries_engine.specs.Answers.{AnswersAll, is_wanted, wanted_text}
-use Rattle.summaries_engine.specs.Summaries.{hash_in}
 use Rattle.summaries_engine.proofs.KeyLemmas.{HasRead, one-more, read-next, read-none}
 
 -- the text of further keys

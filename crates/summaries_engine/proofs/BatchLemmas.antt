@@ -1,25 +1,13 @@
 -- Keys at the front of some bytes, cut off one after the other, their hashes and their answers.
 use Rattle.std.proofs.Common.{◌≡◌, ℕ, suc, ◌+◌, ◌<◌, ◌≤◌, Bool, true, false, get_or, List, [], ◌∷◌, ◌++◌, map, length, length-append, take, Option, refl, sym, subst, ◌∙◌, ap, append_assoc, append-nil, arith}
 use Rattle.std.proofs.Math.Seq.{take-suc-set}
-use Rattle.std.proofs.lemmas.List.{map-append}
-use Rattle.std.proofs.lemmas.List.Elements.{All-append, All-from_recursion, All-nil}
-use Rattle.std.proofs.KnownBytes.{Appends-nil, Appends-trans}
+use Rattle.summaries_engine.proofs.Common.{map-append, All-append, All-from_recursion, All-nil, Appends-nil, Appends-trans, content, Appends, sip, lines_by, AppendsPart, part-second, Wanted, AnyFilter, TellsEach, has_hash, hash_in}
 use Rattle.std.proofs.Math.ListN.{set}
 use Rattle.std.proofs.lemmas.Bool.{lt-ltb}
 use Rattle.std.specs.Prelude.{◌&&◌, flat_map, if◌then◌else◌}
-use Rattle.bloom_parts.specs.Content.{content}
-use Rattle.std.specs.Io.KnownBytes.{Appends}
-use Rattle.bloom_parts.specs.Sip.{sip}
-use Rattle.lines.specs.Lines.{lines_by}
-use Rattle.lines.specs.Writing.{AppendsPart}
 use Rattle.lines.proofs.LineLemmas.{IsEnded-append, IsEnded-line, IsEnded-nil, lines_by-ended, lines_by-nil}
-use Rattle.lines.proofs.WritingLemmas.{part-second}
-use Rattle.summaries_engine.specs.declared.answers.Wanted.{Wanted}
-use Rattle.summaries_engine.specs.declared.kinds.AnyFilter.{AnyFilter}
 use Rattle.summaries_engine.specs.Answers.{is_wanted, reply_text, wanted_text}
 use Rattle.summaries_engine.specs.Batches.{AnswersFirst, AnswersPart, CutsKey, CutsKeys, HashesFirst, HashesSome}
-use Rattle.summaries_engine.specs.Kinds.{TellsEach, has_hash}
-use Rattle.summaries_engine.specs.Summaries.{hash_in}
 use Rattle.summaries_engine.proofs.AskingLemmas.{wanted_text-append}
 
 -- no key was cut off

@@ -1,10 +1,6 @@
 -- How many bits are set in both of two filters.
 use Rattle.std.proofs.Common.{◌≡◌, ◌≤◌, ℕ, zero, suc, ◌+◌, ◌-◌, ◌*◌, Bool, true, false, ◌||◌, refl, ap, ◌∙◌, arith}
-use Rattle.std.specs.Prelude.{◌&&◌, if◌then◌else◌}
-use Rattle.bloom_parts.specs.Content.{content}
-use Rattle.bloom_parts.specs.Counts.{count_on}
-use Rattle.fastbloom.specs.Data.{DefaultFilter}
-use Rattle.fastbloom.specs.Filter.{SameShape, num_bits_of}
+use Rattle.summaries_engine.proofs.Common.{◌&&◌, if◌then◌else◌, content, count_on, DefaultFilter, SameShape, num_bits_of}
 use Rattle.fastbloom.specs.Ones.{ones_of, ones_of_either}
 use Rattle.summaries_engine.specs.Comparing.{ones_of_both}
 

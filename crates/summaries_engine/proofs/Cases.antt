@@ -5,28 +5,13 @@
 -- by another program.
 use Rattle.std.proofs.Common.{◌≡◌, ◌≤◌, ◌<◌, ℕ, ◌^◌, Bool, true, false, ◌||◌, List, [], ◌∷◌, length, Option, Some, None, refl, sym, subst, ap, ◌∙◌, lit<, lit≤, arith, append-nil}
 use Rattle.std.specs.Prelude.{IfSome}
-use Rattle.std.proofs.lemmas.List.Elements.{All-from_recursion}
+use Rattle.summaries_engine.proofs.Common.{All-from_recursion, chain, content, positions, sip, start, round, absorb, answer, whole_words, rest, DefaultFilter, positions_of_all, LineRangeLaw, line_positions, Shape, lines_by, AnyFilter, Classic, Blocked, HaveKeys, Lies, parts_of, Named, IsFilled, IsSummaryOf, joined}
 use Rattle.std.proofs.lemmas.Option.{none-some}
-use Rattle.bloom_parts.specs.Chain.{chain}
-use Rattle.bloom_parts.specs.Content.{content}
 use Rattle.bloom_parts.specs.Hashed.{SipState}
-use Rattle.bloom_parts.specs.Places.{positions}
-use Rattle.bloom_parts.specs.Sip.{sip, start, round, absorb, answer, whole_words, rest}
 use Rattle.bloom_parts.specs.declared.math.estimate.Estimate.{Estimate}
 use Rattle.bloom_plain.proofs.CaseLemmas.{alike_below, content-case, positions-past}
-use Rattle.fastbloom.specs.Data.{DefaultFilter}
-use Rattle.fastbloom.specs.Fill.{positions_of_all}
-use Rattle.fastbloom.specs.Lines.{LineRangeLaw, line_positions}
 use Rattle.fastbloom.specs.Many.{positions_in_lines}
-use Rattle.fastbloom.specs.declared.parallel.shape.Shape.{Shape}
-use Rattle.lines.specs.Lines.{lines_by}
 use Rattle.lines.specs.Reading.{AreShort, IsReadWholeBy}
-use Rattle.summaries_engine.specs.declared.kinds.AnyFilter.{AnyFilter}
-use Rattle.summaries_engine.specs.declared.kinds.AnyFilter.TheVariants.{Classic, Blocked}
-use Rattle.summaries_engine.specs.Inputs.{HaveKeys, Lies}
-use Rattle.summaries_engine.specs.Kinds.{parts_of}
-use Rattle.summaries_engine.specs.Named.{Named}
-use Rattle.summaries_engine.specs.Summaries.{IsFilled, IsSummaryOf, joined}
 
 -- ---- filters
 

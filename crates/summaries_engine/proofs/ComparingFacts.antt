@@ -1,16 +1,9 @@
 -- What is reported about two filters: cases that hold, and the nearest that don't.
 use Rattle.std.proofs.Common.{◌≡◌, ◌^◌, ℕ, inl, inr, List, [], ◌∷◌, ◌++◌, codes, get_or, refl, sym, ap, ◌∙◌, lit≤, arith}
-use Rattle.std.specs.Fmt.{char_count, digits, padded_integral}
-use Rattle.anyhow.specs.declared.error.Error.{Error}
+use Rattle.summaries_engine.proofs.Common.{char_count, digits, padded_integral, Error, content, count_on, key_of, Blocked, Memory, Output, parts_of}
 use Rattle.bloom_parts.specs.Alike.{EstimatesEach, IsCommon, IsPartOf}
-use Rattle.bloom_parts.specs.Content.{content}
-use Rattle.bloom_parts.specs.Counts.{count_on}
-use Rattle.bloom_parts.specs.Keys.{key_of}
 use Rattle.bloom_parts.specs.declared.math.bracket.Bracket.{Bracket}
-use Rattle.summaries_engine.specs.declared.kinds.AnyFilter.TheVariants.{Blocked}
-use Rattle.summaries_engine.specs.declared.stop.Stop.TheVariants.{Memory, Output}
 use Rattle.summaries_engine.specs.Comparing.{ComparesNamed, StopsComparing, TellsBoth}
-use Rattle.summaries_engine.specs.Kinds.{parts_of}
 use Rattle.summaries_engine.proofs.Cases.{counted, filter, from, from_to, never}
 
 -- a third lies between two units, and one is a unit

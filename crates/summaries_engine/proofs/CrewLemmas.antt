@@ -6,21 +6,13 @@ use Rattle.std.proofs.lemmas.List.{drop-drop, drop_min, length-drop, nil_from_le
 use Rattle.std.proofs.lemmas.List.Elements.{All-cons, All-head, All-tail, All-weaker}
 use Rattle.std.proofs.lemmas.List.Folds.{list_any_none}
 use Rattle.std.specs.Fork.{slice_chunk}
-use Rattle.std.specs.Prelude.{All, slice_index_or}
-use Rattle.bloom_parts.specs.Content.{content}
+use Rattle.summaries_engine.proofs.Common.{All, slice_index_or, content, positions, DefaultFilter, hashes_of, positions_of_all, words_of, InsertsAll, Classic, FillsMore, IsEmpty}
 use Rattle.bloom_parts.specs.Deciders.{last_decision}
 use Rattle.bloom_parts.specs.Operations.{Insert, decides, state_after}
-use Rattle.bloom_parts.specs.Places.{positions}
 use Rattle.bloom_parts.proofs.PublishedLemmas.{unwrap_or-option_or}
-use Rattle.fastbloom.specs.Data.{DefaultFilter}
-use Rattle.fastbloom.specs.Fill.{hashes_of, positions_of_all, words_of}
 use Rattle.fastbloom.specs.Filter.{SameShape, Unites, num_bits_of}
-use Rattle.fastbloom.specs.Replies.{InsertsAll}
 use Rattle.fastbloom.proofs.FillLemmas.{positions_of_all-append}
-use Rattle.summaries_engine.specs.declared.kinds.AnyFilter.TheVariants.{Classic}
 use Rattle.summaries_engine.specs.Crews.{HoldMore, HoldTogether, InsertParts, IsLike, one_has}
-use Rattle.summaries_engine.specs.Fillers.{FillsMore}
-use Rattle.summaries_engine.specs.Sizes.{IsEmpty}
 
 -- a filter has its own shape
 same : (f : DefaultFilter) → SameShape f f

@@ -1,16 +1,12 @@
 -- Empty filters, as the builders of the library make them.
 use Rattle.std.proofs.Common.{◌≡◌, ℕ, ◌*◌, max, length, replicate, sym, subst, ◌∙◌, ap}
 use Rattle.std.proofs.lemmas.List.{length-replicate}
-use Rattle.bloom_parts.specs.Content.{content}
-use Rattle.bloom_parts.specs.Keys.{HasKey, key_of}
+use Rattle.summaries_engine.proofs.Common.{content, HasKey, key_of, content-zeros, DefaultFilter, IsClassicFor, IsEmpty, IsSizedFor}
 use Rattle.bloom_parts.specs.Rates.{num_of, den_of}
 use Rattle.bloom_parts.specs.Sizing.{IsSizeFor, hashes_for}
 use Rattle.bloom_parts.specs.declared.math.rate.Rate.{Rate}
-use Rattle.bloom_parts.proofs.PublishedLemmas.{content-zeros}
 use Rattle.fastbloom.specs.BlockedSizing.{IsMadeInLinesFor, IsSizeInLines, hashes_in_lines, line_words_for}
 use Rattle.fastbloom.specs.Builders.{IsMadeFor, RateStart, Start, words_for}
-use Rattle.fastbloom.specs.Data.{DefaultFilter}
-use Rattle.summaries_engine.specs.Sizes.{IsClassicFor, IsEmpty, IsSizedFor}
 use Rattle.summaries_engine.proofs.FilledLemmas.{Builder}
 
 -- a hasher that has a key has its own

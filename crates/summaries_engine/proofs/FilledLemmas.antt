@@ -3,22 +3,12 @@ use Rattle.std.proofs.Common.{◌≡◌, inl, inr, ℕ, ◌*◌, ◌/◌, Bool, 
 use Rattle.std.proofs.lemmas.Bool.{or_cases}
 use Rattle.std.proofs.lemmas.List.Elements.{Contains-append_right}
 use Rattle.std.proofs.lemmas.List.Folds.{list_any-append, list_any_at}
-use Rattle.std.specs.List.{Contains, list_any}
-use Rattle.bloom_parts.specs.Content.{content, AreWords}
+use Rattle.summaries_engine.proofs.Common.{Contains, list_any, content, AreWords, Layout, Whole, Lines, DefaultFilter, EqualContentLaw, EqualityLaw, Shape, AnyFilter, Classic, Blocked, HaveSameKind, UnitesParts, has_hash, layout_of, parts_of, IsFilled, positions_in}
 use Rattle.bloom_parts.specs.declared.hasher.CloneBuildHasher.{CloneBuildHasher}
 use Rattle.bloom_parts.specs.declared.hasher.sip.RandomDefaultHasher.{RandomDefaultHasher}
-use Rattle.bloom_files.specs.declared.layout.Layout.{Layout}
-use Rattle.bloom_files.specs.declared.layout.Layout.TheVariants.{Whole, Lines}
-use Rattle.fastbloom.specs.Data.{DefaultFilter}
 use Rattle.fastbloom.specs.Fill.{AnyCuttingLaw, FilledContainsLaw, HaveSameHashes, IsFilledWith, hashes_of, words_of}
-use Rattle.fastbloom.specs.Laws.{EqualContentLaw, EqualityLaw}
 use Rattle.fastbloom.specs.Lines.{LineSubsetLaw, are_in_line, line_positions}
-use Rattle.fastbloom.specs.declared.parallel.shape.Shape.{Shape}
 use Rattle.fastbloom.proofs.FillLemmas.{positions_of_all-append}
-use Rattle.summaries_engine.specs.declared.kinds.AnyFilter.{AnyFilter}
-use Rattle.summaries_engine.specs.declared.kinds.AnyFilter.TheVariants.{Classic, Blocked}
-use Rattle.summaries_engine.specs.Kinds.{HaveSameKind, UnitesParts, has_hash, layout_of, parts_of}
-use Rattle.summaries_engine.specs.Summaries.{IsFilled, positions_in}
 
 -- the hashers of default filters
 abbrev pub Builder : Type 0

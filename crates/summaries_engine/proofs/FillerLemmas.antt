@@ -1,22 +1,9 @@
 -- Filters of either kind that take hashes, and the summaries that come of it.
 use Rattle.std.proofs.Common.{ℕ, ◌/◌, ◌||◌, List, [], ◌++◌, map, refl, sym, subst, ◌∙◌, ap, append_assoc, append-nil}
-use Rattle.bloom_parts.specs.Keys.{HasKey, key_of}
-use Rattle.bloom_parts.specs.Sip.{sip}
+use Rattle.summaries_engine.proofs.Common.{HasKey, key_of, sip, DefaultFilter, InsertsAll, Shape, Lines, AnyFilter, Classic, Blocked, IsKeyed, HasTaken, FillsMore, HashesInputs, Lies, SummarizesInputs, layout_of, parts_of, IsEmpty, IsShapeOf, IsFilled, joined}
 use Rattle.fastbloom.specs.Blocked.{InsertsAllInLines, num_lines_of}
-use Rattle.fastbloom.specs.Data.{DefaultFilter}
 use Rattle.fastbloom.specs.Fill.{FilledByInsertsLaw, hashes_of, words_of}
 use Rattle.fastbloom.specs.Many.{positions_in_lines}
-use Rattle.fastbloom.specs.Replies.{InsertsAll}
-use Rattle.fastbloom.specs.declared.parallel.shape.Shape.{Shape}
-use Rattle.bloom_files.specs.declared.layout.Layout.TheVariants.{Lines}
-use Rattle.summaries_engine.specs.declared.kinds.AnyFilter.{AnyFilter}
-use Rattle.summaries_engine.specs.declared.kinds.AnyFilter.TheVariants.{Classic, Blocked}
-use Rattle.summaries_engine.specs.Answers.{IsKeyed}
-use Rattle.summaries_engine.specs.Fillers.{HasTaken, FillsMore}
-use Rattle.summaries_engine.specs.Inputs.{HashesInputs, Lies, SummarizesInputs}
-use Rattle.summaries_engine.specs.Kinds.{layout_of, parts_of}
-use Rattle.summaries_engine.specs.Sizes.{IsEmpty, IsShapeOf}
-use Rattle.summaries_engine.specs.Summaries.{IsFilled, joined}
 use Rattle.summaries_engine.proofs.FilledLemmas.{Builder, filled-with, positions-append, positions-none, with-filled}
 
 -- hashes were taken, and then further ones

@@ -1,17 +1,9 @@
 -- Keys of several inputs, each of which has the bytes of its own name: cases that hold, and the
 -- nearest that don't.
 use Rattle.std.proofs.Common.{◌≡◌, ℕ, true, false, List, [], ◌∷◌, length, Some, refl, sym, ap, subst, ◌∙◌, arith}
-use Rattle.bloom_parts.specs.Chain.{chain}
-use Rattle.bloom_parts.specs.Content.{content}
-use Rattle.bloom_parts.specs.Places.{are_in, positions}
-use Rattle.bloom_parts.specs.Sip.{sip, start, round, absorb, answer, whole_words, rest}
-use Rattle.fastbloom.specs.Data.{DefaultFilter}
-use Rattle.fastbloom.specs.Fill.{positions_of_all}
+use Rattle.summaries_engine.proofs.Common.{chain, content, are_in, positions, sip, start, round, absorb, answer, whole_words, rest, DefaultFilter, positions_of_all, Classic, IsKeyed, wanted_text, IsSummaryOf}
 use Rattle.summaries_engine.specs.declared.answers.Wanted.TheVariants.{Found, Absent}
-use Rattle.summaries_engine.specs.declared.kinds.AnyFilter.TheVariants.{Classic}
-use Rattle.summaries_engine.specs.Answers.{IsKeyed, wanted_text}
 use Rattle.summaries_engine.specs.Inputs.{AnswersInputs, SummarizesInputs}
-use Rattle.summaries_engine.specs.Summaries.{IsSummaryOf}
 use Rattle.summaries_engine.proofs.Cases.{both-keys, hash-a, key_a, key_b, made_of, of_a, of_b, one-key, own, shape, summary-a}
 
 -- the hashers of a filter have its key and have taken in nothing

@@ -1,20 +1,7 @@
 -- Inputs that were taken one after the other.
 use Rattle.std.proofs.Common.{◌≡◌, ◌<◌, ◌≤◌, ℕ, ◌+◌, inl, inr, List, [], ◌∷◌, ◌++◌, map, length, get_or, take, Bor, Option, sym, subst, ◌∙◌, ap, append-nil}
-use Rattle.std.proofs.KnownBytes.{Appends-trans}
-use Rattle.std.proofs.lemmas.Grind.{flat_map-append}
-use Rattle.std.proofs.lemmas.List.{map-append}
-use Rattle.std.specs.Io.KnownBytes.{Appends}
-use Rattle.bloom_parts.specs.Sip.{sip}
-use Rattle.summaries_engine.specs.declared.kinds.AnyFilter.{AnyFilter}
-use Rattle.lines.proofs.WritingLemmas.{part-second}
-use Rattle.lines.specs.Writing.{AppendsPart}
-use Rattle.summaries_engine.specs.declared.answers.Wanted.{Wanted}
-use Rattle.summaries_engine.specs.declared.stop.Stop.{Stop}
-use Rattle.summaries_engine.specs.Answers.{AnswersAll, HashesAll, wanted_text}
-use Rattle.summaries_engine.specs.Fillers.{HasTaken}
+use Rattle.summaries_engine.proofs.Common.{Appends-trans, flat_map-append, map-append, Appends, sip, AnyFilter, part-second, AppendsPart, Wanted, Stop, AnswersAll, HashesAll, wanted_text, HasTaken, StopsAnswers, StopsHashing, joined}
 use Rattle.summaries_engine.specs.Inputs.{HasKeys, HashesInputs, HaveKeys, Lies, StopsAsking, StopsAt, StopsAnswered, StopsHashes, StopsInput}
-use Rattle.summaries_engine.specs.Stops.{StopsAnswers, StopsHashing}
-use Rattle.summaries_engine.specs.Summaries.{joined}
 use Rattle.summaries_engine.proofs.AskingLemmas.{wanted_text-append}
 use Rattle.summaries_engine.proofs.NameLemmas.{names-all, names-from, next-name, texts}
 

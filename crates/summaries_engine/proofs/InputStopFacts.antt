@@ -1,18 +1,9 @@
 -- Why not all keys of several inputs are hashed or asked for, each of which has the bytes of its
 -- own name: cases that hold, and the nearest that don't.
 use Rattle.std.proofs.Common.{◌≡◌, ◌≤◌, ℕ, inl, inr, List, [], ◌∷◌, ◌++◌, codes, length, length-append, get_or, Some, refl, sym, ap, subst, ◌∙◌, arith}
-use Rattle.std.proofs.lemmas.List.Elements.{All-from_recursion}
-use Rattle.anyhow.specs.declared.error.Error.{Error}
-use Rattle.lines.specs.Lines.{lines_by}
-use Rattle.lines.specs.Reading.{IsReadFromBy}
-use Rattle.lines.specs.Writing.{Begins}
+use Rattle.summaries_engine.proofs.Common.{All-from_recursion, Error, lines_by, IsReadFromBy, Begins, Stop, Memory, Output, wanted_text, IsReasonAfter, IsUnwritten, StopsAnswers, joined}
 use Rattle.summaries_engine.specs.declared.answers.Wanted.TheVariants.{Found}
-use Rattle.summaries_engine.specs.declared.stop.Stop.{Stop}
-use Rattle.summaries_engine.specs.declared.stop.Stop.TheVariants.{Memory, Output}
-use Rattle.summaries_engine.specs.Answers.{wanted_text}
 use Rattle.summaries_engine.specs.Inputs.{HaveKeys, StopsAnswered, StopsAsking, StopsBuilding, StopsHashes, StopsInput}
-use Rattle.summaries_engine.specs.Stops.{IsReasonAfter, IsUnwritten, StopsAnswers}
-use Rattle.summaries_engine.specs.Summaries.{joined}
 use Rattle.summaries_engine.proofs.Cases.{both-keys, key_a, key_b, never, of_a, own}
 use Rattle.summaries_engine.proofs.StopLemmas.{stops-none}
 use Rattle.summaries_engine.proofs.InputFacts.{text-of-keys}

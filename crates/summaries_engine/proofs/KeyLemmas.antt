@@ -1,13 +1,7 @@
 -- Keys of one input that are read one after the other, and their hashes so far.
 use Rattle.std.proofs.Common.{◌≡◌, ℕ, ◌+◌, ◌≤◌, true, false, List, [], ◌∷◌, ◌++◌, map, length, length-append, Ok, Option, refl, sym, subst, ◌∙◌, ap, arith, append_assoc, append-nil}
-use Rattle.std.proofs.lemmas.List.{map-append}
-use Rattle.std.proofs.lemmas.List.Elements.{All-append, All-from_recursion, All-nil}
-use Rattle.std.specs.Prelude.{IfOk, Result}
-use Rattle.bloom_parts.specs.Sip.{sip}
-use Rattle.lines.specs.Reading.{Waiting, AreShort, Ends, KnowsEnd, TakesShortBy, left_of}
+use Rattle.summaries_engine.proofs.Common.{map-append, All-append, All-from_recursion, All-nil, IfOk, Result, sip, Waiting, AreShort, Ends, KnowsEnd, TakesShortBy, left_of, HashesAll, HasTaken}
 use Rattle.lines.proofs.TakenLemmas.{TakesLinesBy, TakesLines-nil, TakesLines-more, IsReadWhole-from}
-use Rattle.summaries_engine.specs.Answers.{HashesAll}
-use Rattle.summaries_engine.specs.Fillers.{HasTaken}
 
 -- these keys were read so far
 pub record HasRead (end : ℕ) (read : Option (List ℕ)) (reader : Waiting)

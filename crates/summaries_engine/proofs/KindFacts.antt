@@ -2,14 +2,8 @@
 use Rattle.std.proofs.Common.{◌≡◌, true, false, ◌||◌, ◌&&◌, [], ◌∷◌, refl, ap, ◌∙◌, arith}
 use Rattle.std.proofs.lemmas.Bool.{le-ltb}
 use Rattle.std.specs.Prelude.{nat_lt, slice_index}
-use Rattle.bloom_files.specs.declared.layout.Layout.TheVariants.{Whole, Lines}
-use Rattle.bloom_parts.specs.Chain.{chain}
-use Rattle.bloom_parts.specs.Content.{content}
-use Rattle.bloom_parts.specs.Places.{are_in}
-use Rattle.bloom_plain.proofs.CaseLemmas.{content-case, content-past}
-use Rattle.fastbloom.specs.Data.{DefaultFilter}
+use Rattle.summaries_engine.proofs.Common.{Whole, Lines, chain, content, are_in, content-case, content-past, DefaultFilter, Classic, Blocked}
 use Rattle.fastbloom.specs.FilterFiles.{file_of}
-use Rattle.summaries_engine.specs.declared.kinds.AnyFilter.TheVariants.{Classic, Blocked}
 use Rattle.summaries_engine.specs.Kinds.{HaveSameKind, HaveOneShape, TellsEach, UnitesParts, file_of_kind, has_hash, parts_of}
 use Rattle.summaries_engine.proofs.Cases.{line, made_of, of_a}
 

@@ -2,6 +2,7 @@ mod AskingLemmas
 mod BatchLemmas
 mod BothLemmas
 mod Cases
+mod Common
 mod ComparingFacts
 mod CrewLemmas
 mod EmptyLemmas

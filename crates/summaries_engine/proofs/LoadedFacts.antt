@@ -1,17 +1,8 @@
 -- Filters in files of either form, and what is said where none is read: cases that hold, and the
 -- nearest that don't.
 use Rattle.std.proofs.Common.{◌≡◌, ◌<◌, ℕ, List, [], ◌∷◌, ◌++◌, codes, drop, get_or, None, Some, refl, sym, subst, ap, ◌∙◌, arith, inl, inr}
-use Rattle.anyhow.specs.Error.{HasMessage, error_message}
-use Rattle.anyhow.specs.declared.error.Error.{Error}
-use Rattle.bloom_files.specs.FileLayouts.{refusal_in}
-use Rattle.bloom_files.specs.FileRefusals.{number_at}
+use Rattle.summaries_engine.proofs.Common.{HasMessage, error_message, Error, refusal_in, number_at, Begins, Form, Sealed, Unsealed, Json, AnyFilter, Memory, Input, Bad, Output, IsFileOfKind, parts_of}
 use Rattle.bloom_files.specs.declared.error.FileError.TheVariants.{Seal}
-use Rattle.lines.specs.Writing.{Begins}
-use Rattle.summaries_engine.specs.declared.form.Form.{Form}
-use Rattle.summaries_engine.specs.declared.form.Form.TheVariants.{Sealed, Unsealed, Json}
-use Rattle.summaries_engine.specs.declared.kinds.AnyFilter.{AnyFilter}
-use Rattle.summaries_engine.specs.declared.stop.Stop.TheVariants.{Memory, Input, Bad, Output}
-use Rattle.summaries_engine.specs.Kinds.{IsFileOfKind, parts_of}
 use Rattle.summaries_engine.specs.Loaded.{HasManyHashes, IsInForm, IsRightWith, IsUnloaded, hashes_text, layout_given, mark_bytes}
 use Rattle.summaries_engine.proofs.StopFacts.{no-whole, says-other}
 

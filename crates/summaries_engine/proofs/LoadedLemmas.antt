@@ -6,18 +6,9 @@ use Rattle.std.proofs.lemmas.List.{length-take-le, take-append-drop, take-append
 use Rattle.std.proofs.lemmas.Slice.Eq.{starts_is}
 use Rattle.std.specs.Prelude.{nat_eq, nat_le, ◌&&◌, if◌then◌else◌, Bool, IfOk, Ok, Result}
 use Rattle.std.specs.Io.KnownBytes.{Consumes, IsAtEnd}
-use Rattle.std.specs.List.{starts_with}
-use Rattle.bloom_parts.specs.Sip.{whole_words}
-use Rattle.bloom_files.specs.declared.layout.Layout.{Layout}
-use Rattle.bloom_files.specs.declared.layout.Layout.TheVariants.{Whole, Lines}
+use Rattle.summaries_engine.proofs.Common.{starts_with, whole_words, Layout, Whole, Lines, number_at, Begins, Form, Json, AnyFilter, IsFileOfKind, layout_of, parts_of}
 use Rattle.bloom_files.specs.FileLayouts.{numbers_in}
 use Rattle.fastbloom.specs.File.{bytes_of, head_of}
-use Rattle.bloom_files.specs.FileRefusals.{number_at}
-use Rattle.lines.specs.Writing.{Begins}
-use Rattle.summaries_engine.specs.declared.form.Form.{Form}
-use Rattle.summaries_engine.specs.declared.form.Form.TheVariants.{Json}
-use Rattle.summaries_engine.specs.declared.kinds.AnyFilter.{AnyFilter}
-use Rattle.summaries_engine.specs.Kinds.{IsFileOfKind, layout_of, parts_of}
 use Rattle.summaries_engine.specs.Loaded.{IsInForm, file_form, head_layout, layout_given, mark_bytes}
 
 -- a number of the first bytes is that of all bytes

@@ -1,14 +1,8 @@
 -- Filters that have names, of one byte, which is the number of hashes of what lies under it: cases
 -- that hold, and the nearest that don't.
 use Rattle.std.proofs.Common.{◌≡◌, ℕ, List, [], ◌∷◌, ◌++◌, codes, length, length-append, inl, inr, refl, ap, arith}
-use Rattle.std.proofs.lemmas.List.Elements.{All-nil}
-use Rattle.anyhow.specs.declared.error.Error.{Error}
-use Rattle.summaries_engine.specs.declared.stop.Stop.{Stop}
-use Rattle.summaries_engine.specs.declared.stop.Stop.TheVariants.{Bad}
+use Rattle.summaries_engine.proofs.Common.{All-nil, Error, Stop, Bad, AreNamed, StopsUniting, Fits, Says}
 use Rattle.summaries_engine.specs.declared.unions.Difference.TheVariants as difference
-use Rattle.summaries_engine.specs.Named.{AreNamed, StopsUniting}
-use Rattle.summaries_engine.specs.Refusals.{Fits}
-use Rattle.summaries_engine.specs.Stops.{Says}
 use Rattle.summaries_engine.proofs.Cases.{counted, never, of_three, of_two}
 
 -- the filters lie under their names in order, and neither a name nor a filter is left over

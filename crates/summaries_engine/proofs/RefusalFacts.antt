@@ -1,9 +1,7 @@
 -- How filters differ: cases that hold, and the nearest that don't.
 use Rattle.std.proofs.Common.{◌≡◌, [], refl, ap, arith}
-use Rattle.bloom_files.specs.declared.layout.Layout.TheVariants.{Whole, Lines}
-use Rattle.summaries_engine.specs.declared.kinds.AnyFilter.TheVariants.{Classic, Blocked}
+use Rattle.summaries_engine.proofs.Common.{Whole, Lines, Classic, Blocked, DiffersBy, Fits}
 use Rattle.summaries_engine.specs.declared.unions.Difference.TheVariants as difference
-use Rattle.summaries_engine.specs.Refusals.{DiffersBy, Fits}
 use Rattle.summaries_engine.proofs.Cases.{made_of, of_three, of_two}
 
 -- a filter fits itself, and none of another kind, shape or key

@@ -1,16 +1,9 @@
 -- Filters that aren't united, and keys that are too long.
 use Rattle.std.proofs.Common.{◌≡◌, ℕ, ◌+◌, ◌-◌, ◌^◌, min, codes, decimal, arith, get_or, List, ◌∷◌, ◌++◌, Some, sym, subst, ◌∙◌}
 use Rattle.std.proofs.lemmas.Fmt.{decimal-digits_of}
-use Rattle.std.proofs.lemmas.List.Elements.{All-head, All-tail}
-use Rattle.std.specs.Prelude.{All}
-use Rattle.anyhow.specs.Error.{HasMessage}
-use Rattle.anyhow.specs.declared.error.Error.{Error}
-use Rattle.summaries_engine.specs.declared.kinds.AnyFilter.{AnyFilter}
+use Rattle.summaries_engine.proofs.Common.{All-head, All-tail, All, HasMessage, Error, AnyFilter, HaveSameKind, HaveOneShape, DiffersBy, Fits, too_long_text, HaveSameKey, IsUnionOf}
 use Rattle.summaries_engine.specs.declared.unions.Difference.{Difference}
 use Rattle.summaries_engine.specs.declared.unions.Difference.TheVariants as difference
-use Rattle.summaries_engine.specs.Kinds.{HaveSameKind, HaveOneShape}
-use Rattle.summaries_engine.specs.Refusals.{DiffersBy, Fits, too_long_text}
-use Rattle.summaries_engine.specs.Summaries.{HaveSameKey, IsUnionOf}
 
 -- two filters of a third one's shape have one shape
 shape-of : (whole first f : AnyFilter) → HaveOneShape whole first → HaveOneShape whole f

@@ -1,11 +1,9 @@
 -- Numbers in the head of a file, which is read by chunks of eight bytes.
 use Rattle.std.proofs.Common.{◌≡◌, ℕ, suc, ◌/◌, ◌<◌, List, [], ◌∷◌, length, get_or, refl, ap, ◌∙◌, sym, arith}
-use Rattle.std.proofs.lemmas.List.{get_or-map}
+use Rattle.summaries_engine.proofs.Common.{get_or-map, whole_words, number_at}
 use Rattle.std.specs.Prelude.{map}
 use Rattle.std.specs.Simd.{first_chunks}
 use Rattle.std.specs.Int.{w64, from_le_bytes}
-use Rattle.bloom_parts.specs.Sip.{whole_words}
-use Rattle.bloom_files.specs.FileRefusals.{number_at}
 
 -- the numbers of bytes are those of their chunks of eight
 numbers-chunks : (bytes : List ℕ)

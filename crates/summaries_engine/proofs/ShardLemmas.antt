@@ -1,15 +1,7 @@
 -- The theorem of shards, by the laws of filled filters.
 use Rattle.std.proofs.Common.{◌≡◌, ℕ, ◌<◌, List, [], ◌∷◌, length, map, get_or, sym, subst, ◌∙◌, ap}
-use Rattle.std.specs.List.{Contains}
+use Rattle.summaries_engine.proofs.Common.{Contains, AreWords, sip, AnyFilter, HaveSameHashes, AnyCuttingLaw, FilledContainsLaw, EqualContentLaw, EqualityLaw, LineSubsetLaw, parts_of, IsFilled, hash_in, joined, HaveSameKeys, IsUnionOf, UnitesShards}
 use Rattle.std.proofs.lemmas.List.{length-map, get_or-map, get_or_default}
-use Rattle.bloom_parts.specs.Content.{AreWords}
-use Rattle.bloom_parts.specs.Sip.{sip}
-use Rattle.summaries_engine.specs.declared.kinds.AnyFilter.{AnyFilter}
-use Rattle.fastbloom.specs.Fill.{HaveSameHashes, AnyCuttingLaw, FilledContainsLaw}
-use Rattle.fastbloom.specs.Laws.{EqualContentLaw, EqualityLaw}
-use Rattle.fastbloom.specs.Lines.{LineSubsetLaw}
-use Rattle.summaries_engine.specs.Kinds.{parts_of}
-use Rattle.summaries_engine.specs.Summaries.{IsFilled, hash_in, joined, HaveSameKeys, IsUnionOf, UnitesShards}
 use Rattle.summaries_engine.proofs.FilledLemmas.{Builder, filled-alike, filled-contains}
 use Rattle.summaries_engine.proofs.UnionLemmas.{summary-joined}
 

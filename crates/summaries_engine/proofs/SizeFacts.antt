@@ -1,16 +1,13 @@
 -- Empty filters and their sizes: cases that hold, and the nearest that don't. A thousand keys at
 -- one half take 1448 bits, so 23 words, or in lines 1477 bits, so 24 words. One hash suits either.
 use Rattle.std.proofs.Common.{◌≡◌, ℕ, ◌*◌, ◌^◌, true, false, [], ◌∷◌, length, None, Some, refl, sym, subst, ap, ◌∙◌, arith}
-use Rattle.bloom_parts.specs.Content.{content}
+use Rattle.summaries_engine.proofs.Common.{content, whole_words, rest, content-zeros, DefaultFilter}
 use Rattle.bloom_parts.specs.Rates.{num_of, den_of}
-use Rattle.bloom_parts.specs.Sip.{whole_words, rest}
 use Rattle.bloom_parts.specs.Sizing.{IsSizeFor, hashes_for}
 use Rattle.bloom_parts.specs.declared.error.FilterError.TheVariants.{Memory, SizeOverflow}
 use Rattle.bloom_parts.specs.declared.math.rate.Rate.{Rate}
-use Rattle.bloom_parts.proofs.PublishedLemmas.{content-zeros}
 use Rattle.fastbloom.specs.BlockedSizing.{hashes_in_lines, line_size_refusal}
 use Rattle.fastbloom.specs.Builders.{RefusesAs, size_refusal, words_for}
-use Rattle.fastbloom.specs.Data.{DefaultFilter}
 use Rattle.summaries_engine.specs.Sizes.{HasSeed, IsClassicFor, IsEmpty, IsShapeOf, IsSizedFor, IsUnmadeFor, IsUnsizedFor}
 use Rattle.summaries_engine.proofs.Cases.{line, line_shape, made_of}
 

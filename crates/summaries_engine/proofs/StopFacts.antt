@@ -2,12 +2,10 @@
 -- has the name "k".
 use Rattle.std.proofs.Common.{◌≡◌, ℕ, ◌+◌, ◌-◌, ◌^◌, ◌==◌, true, min, if◌then◌else◌, None, inl, inr, List, [], codes, length, get_or, Some, refl, sym, ap, subst, ◌∙◌, arith}
 use Rattle.std.proofs.lemmas.Bool.{and_from, le-leb}
-use Rattle.std.specs.Prelude.{nat_le}
+use Rattle.summaries_engine.proofs.Common.{nat_le, Error, Memory, Input, Bad, Output}
 use Rattle.std.specs.Fmt.Cut.{EndsInDots}
 use Rattle.std.specs.declared.io.ErrorKind.TheVariants as kind
 use Rattle.anyhow.specs.Error.{AddsCause, HasMessage, IsMadeOf, error_causes, error_left_out, error_message, keeps_message}
-use Rattle.anyhow.specs.declared.error.Error.{Error}
-use Rattle.summaries_engine.specs.declared.stop.Stop.TheVariants.{Memory, Input, Bad, Output}
 use Rattle.summaries_engine.specs.Stops.{IsBad, IsMemory, IsOutput, IsUnput, IsUnreadAs, IsUnreadable, Says, SaysOver}
 
 -- an error that says one text says no other

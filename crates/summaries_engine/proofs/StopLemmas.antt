@@ -1,19 +1,8 @@
 -- Keys of one input that weren't taken to their end.
 use Rattle.std.proofs.Common.{◌≡◌, inl, inr, ℕ, ◌-◌, ◌≤◌, List, [], ◌∷◌, ◌++◌, length, Option, Some, None, refl, sym, subst}
-use Rattle.std.proofs.lemmas.List.Elements.{All-nil}
-use Rattle.std.proofs.KnownBytes.{Appends-kept}
-use Rattle.std.specs.Io.KnownBytes.{Keeps}
-use Rattle.summaries_engine.specs.declared.kinds.AnyFilter.{AnyFilter}
-use Rattle.lines.specs.Lines.{lines_by}
+use Rattle.summaries_engine.proofs.Common.{All-nil, Appends-kept, Keeps, AnyFilter, lines_by, AppendsPart, part-second, Wanted, Stop, Memory, wanted_text, too_long_text}
 use Rattle.lines.specs.Reading.{Waiting, KnowsEnd, TakesLongBy, TakesShortBy, IsReadFromBy, left_of}
-use Rattle.lines.specs.Writing.{AppendsPart}
 use Rattle.lines.proofs.TakenLemmas.{TakesLinesBy, IsReadFrom-taken, IsReadToLong-from}
-use Rattle.lines.proofs.WritingLemmas.{part-second}
-use Rattle.summaries_engine.specs.declared.answers.Wanted.{Wanted}
-use Rattle.summaries_engine.specs.declared.stop.Stop.{Stop}
-use Rattle.summaries_engine.specs.declared.stop.Stop.TheVariants.{Memory}
-use Rattle.summaries_engine.specs.Answers.{wanted_text}
-use Rattle.summaries_engine.specs.Refusals.{too_long_text}
 use Rattle.summaries_engine.specs.Stops.{IsBad, IsReasonAfter, IsUnreadable, IsUnwritten, Says, StopsAfter, StopsAnswers, StopsHashing, StopsWriting}
 use Rattle.summaries_engine.proofs.AskingLemmas.{IsAnswering, part-whole, wanted_text-append}
 use Rattle.summaries_engine.proofs.KeyLemmas.{IsTaking, read-next}

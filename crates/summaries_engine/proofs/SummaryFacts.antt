@@ -1,18 +1,9 @@
 -- What filters are to keys, and united filters to the keys of all: cases that hold, and the nearest
 -- that don't.
 use Rattle.std.proofs.Common.{◌≡◌, ◌⊎◌, inl, inr, ℕ, true, false, ◌||◌, List, [], ◌∷◌, refl, sym, ap, ◌∙◌, lit<, arith}
-use Rattle.std.specs.List.{Contains}
+use Rattle.summaries_engine.proofs.Common.{Contains, chain, content, AreWords, positions, sip, start, round, absorb, answer, whole_words, rest, DefaultFilter, positions_of_all, LineRangeLaw, Classic, Blocked, HaveSameKey, HaveSameKeys, IsSummaryOf, UnitesShards, hash_in}
 use Rattle.std.proofs.lemmas.Grind.{common_steps}
-use Rattle.bloom_parts.specs.Chain.{chain}
-use Rattle.bloom_parts.specs.Content.{content, AreWords}
-use Rattle.bloom_parts.specs.Places.{positions}
-use Rattle.bloom_parts.specs.Sip.{sip, start, round, absorb, answer, whole_words, rest}
-use Rattle.fastbloom.specs.Data.{DefaultFilter}
-use Rattle.fastbloom.specs.Fill.{positions_of_all}
 use Rattle.fastbloom.specs.Filter.{contains}
-use Rattle.fastbloom.specs.Lines.{LineRangeLaw}
-use Rattle.summaries_engine.specs.declared.kinds.AnyFilter.TheVariants.{Classic, Blocked}
-use Rattle.summaries_engine.specs.Summaries.{HaveSameKey, HaveSameKeys, IsSummaryOf, UnitesShards, hash_in}
 use Rattle.summaries_engine.proofs.Cases.{filter, hash-a, key_a, key_b, line, line_shape, made_of, of_a, of_b, of_both, shape, summary-a, summary-b, summary-line}
 
 -- the hash of "a" is that under both words of a filter's key

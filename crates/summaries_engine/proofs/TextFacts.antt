@@ -1,14 +1,9 @@
 -- What is reported about a filter, in lines and in JSON (RFC 8259): texts that were written down by
 -- hand, and the nearest that don't tell the filter.
 use Rattle.std.proofs.Common.{◌≡◌, ℕ, ◌-◌, ◌^◌, List, [], ◌∷◌, ◌++◌, codes, get_or, refl, ap, lit≤, arith}
-use Rattle.std.specs.Fmt.{char_count, digits, padded_integral}
-use Rattle.bloom_parts.specs.Content.{content}
-use Rattle.bloom_parts.specs.Counts.{count_on}
+use Rattle.summaries_engine.proofs.Common.{char_count, digits, padded_integral, content, count_on, DefaultFilter, Sealed, Unsealed, Json, Classic, Blocked}
 use Rattle.bloom_parts.specs.Estimates.{EstimatesItems}
 use Rattle.bloom_parts.specs.Powers.{rounded_power}
-use Rattle.fastbloom.specs.Data.{DefaultFilter}
-use Rattle.summaries_engine.specs.declared.form.Form.TheVariants.{Sealed, Unsealed, Json}
-use Rattle.summaries_engine.specs.declared.kinds.AnyFilter.TheVariants.{Classic, Blocked}
 use Rattle.summaries_engine.specs.Facts.{TellsFilter, estimates_text, lines_text, rate_of_text}
 use Rattle.summaries_engine.specs.Scripts.{TellsScript, parts_script, rate_script}
 use Rattle.summaries_engine.proofs.Cases.{from, from_to, line, made_of}

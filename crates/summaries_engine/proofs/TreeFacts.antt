@@ -1,14 +1,6 @@
 -- Trees of unions: cases that hold, and the nearest that don't.
 use Rattle.std.proofs.Common.{◌≡◌, ℕ, true, false, ◌||◌, [], ◌∷◌, refl, ap, ◌∙◌}
-use Rattle.bloom_parts.specs.Chain.{chain}
-use Rattle.bloom_parts.specs.Content.{content}
-use Rattle.bloom_parts.specs.Places.{positions}
-use Rattle.bloom_parts.specs.Sip.{sip}
-use Rattle.bloom_plain.proofs.CaseLemmas.{alike_below, content-case, content-past}
-use Rattle.fastbloom.specs.Fill.{positions_of_all}
-use Rattle.summaries_engine.specs.declared.kinds.AnyFilter.TheVariants.{Classic}
-use Rattle.summaries_engine.specs.Kinds.{UnitesParts}
-use Rattle.summaries_engine.specs.Summaries.{IsSummaryOf}
+use Rattle.summaries_engine.proofs.Common.{chain, content, positions, sip, alike_below, content-case, content-past, positions_of_all, Classic, UnitesParts, IsSummaryOf}
 use Rattle.summaries_engine.specs.Trees.{Tree, Part, United, keys_of, Makes}
 use Rattle.summaries_engine.proofs.Cases.{filter, hash-a, hash-b, key_a, key_b, of_a, of_b, of_both, shape, summary-a, summary-b}
 use Rattle.summaries_engine.proofs.TreeLemmas.{tree_summary_law}

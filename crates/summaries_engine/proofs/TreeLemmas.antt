@@ -1,17 +1,6 @@
 -- What a tree of unions makes, by the laws of filled filters.
 use Rattle.std.proofs.Common.{◌≡◌, ℕ, true, List, map, sym, subst, ◌∙◌, ap}
-use Rattle.std.specs.List.{Contains}
-use Rattle.std.proofs.lemmas.List.{map-append}
-use Rattle.bloom_parts.specs.Content.{AreWords}
-use Rattle.bloom_parts.specs.Keys.{key_of}
-use Rattle.bloom_parts.specs.Sip.{sip}
-use Rattle.fastbloom.specs.Fill.{AnyCuttingLaw, FilledContainsLaw}
-use Rattle.fastbloom.specs.Laws.{EqualContentLaw, EqualityLaw}
-use Rattle.fastbloom.specs.Lines.{LineSubsetLaw}
-use Rattle.fastbloom.specs.declared.parallel.shape.Shape.{Shape}
-use Rattle.summaries_engine.specs.declared.kinds.AnyFilter.{AnyFilter}
-use Rattle.summaries_engine.specs.Kinds.{HaveSameKind, has_hash, parts_of}
-use Rattle.summaries_engine.specs.Summaries.{HaveSameKey, HaveSameKeys, IsFilled, IsSummaryOf, hash_in}
+use Rattle.summaries_engine.proofs.Common.{Contains, map-append, AreWords, key_of, sip, AnyCuttingLaw, FilledContainsLaw, EqualContentLaw, EqualityLaw, LineSubsetLaw, Shape, AnyFilter, HaveSameKind, has_hash, parts_of, HaveSameKey, HaveSameKeys, IsFilled, IsSummaryOf, hash_in}
 use Rattle.summaries_engine.specs.Trees.{Tree, Part, United, Makes, keys_of}
 use Rattle.summaries_engine.proofs.FilledLemmas.{Builder, filled-alike, filled-contains, filled-union}
 use Rattle.summaries_engine.proofs.ShardLemmas.{hash-of-key, hashes-same}

@@ -1,18 +1,7 @@
 -- Filters that are united, and the keys of which they are summaries.
 use Rattle.std.proofs.Common.{◌≡◌, ℕ, Bool, false, ◌||◌, List, [], ◌∷◌, ◌++◌, get_or, map, refl, sym, ◌∙◌, ap}
 use Rattle.std.proofs.Math.Bool.{or_comm}
-use Rattle.std.proofs.lemmas.List.{map-append}
-use Rattle.std.proofs.lemmas.List.Elements.{All-append, All-from_recursion, All-head, All-tail}
-use Rattle.std.proofs.lemmas.List.Folds.{list_any-append}
-use Rattle.std.specs.List.{list_any}
-use Rattle.std.specs.Prelude.{All}
-use Rattle.bloom_parts.specs.Content.{content}
-use Rattle.bloom_parts.specs.Keys.{key_of}
-use Rattle.bloom_parts.specs.Sip.{sip}
-use Rattle.fastbloom.specs.declared.parallel.shape.Shape.{Shape}
-use Rattle.summaries_engine.specs.declared.kinds.AnyFilter.{AnyFilter}
-use Rattle.summaries_engine.specs.Kinds.{HaveSameKind, HaveOneShape, UnitesParts, layout_of, parts_of}
-use Rattle.summaries_engine.specs.Refusals.{Fits}
+use Rattle.summaries_engine.proofs.Common.{map-append, All-append, All-from_recursion, All-head, All-tail, list_any-append, list_any, All, content, key_of, sip, Shape, AnyFilter, HaveSameKind, HaveOneShape, UnitesParts, layout_of, parts_of, Fits}
 use Rattle.summaries_engine.specs.Summaries.{AreSummariesOf, HaveSameKey, IsSummaryOf, IsUnionOf, hash_in, joined, positions_in}
 use Rattle.summaries_engine.proofs.FilledLemmas.{positions-append, positions-none}
 

@@ -1,17 +1,8 @@
 -- Filters that lie under names, loaded and united one after the other.
 use Rattle.std.proofs.Common.{◌≡◌, ℕ, List, [], ◌∷◌, ◌++◌, get_or, inl, inr, sym, subst, ap}
-use Rattle.bloom_parts.specs.Content.{AreWords}
-use Rattle.fastbloom.specs.Fill.{AnyCuttingLaw, FilledContainsLaw}
-use Rattle.fastbloom.specs.Laws.{EqualContentLaw, EqualityLaw}
-use Rattle.fastbloom.specs.Lines.{LineSubsetLaw}
-use Rattle.summaries_engine.specs.declared.kinds.AnyFilter.{AnyFilter}
-use Rattle.summaries_engine.specs.declared.stop.Stop.{Stop}
+use Rattle.summaries_engine.proofs.Common.{AreWords, AnyCuttingLaw, FilledContainsLaw, EqualContentLaw, EqualityLaw, LineSubsetLaw, AnyFilter, Stop, UnitesParts, parts_of, DiffersBy, Fits, IsBad, Says, IsUnionOf, UnitesShards}
 use Rattle.summaries_engine.specs.declared.unions.Difference.{Difference}
-use Rattle.summaries_engine.specs.Kinds.{UnitesParts, parts_of}
 use Rattle.summaries_engine.specs.Named.{AreNamed, LoadedBefore, Named, StopsUniting, misfit_text}
-use Rattle.summaries_engine.specs.Refusals.{DiffersBy, Fits}
-use Rattle.summaries_engine.specs.Stops.{IsBad, Says}
-use Rattle.summaries_engine.specs.Summaries.{IsUnionOf, UnitesShards}
 use Rattle.summaries_engine.proofs.FilledLemmas.{Builder}
 use Rattle.summaries_engine.proofs.RefusalLemmas.{misfit-differs, union-fits}
 use Rattle.summaries_engine.proofs.ShardLemmas.{unites-shards}

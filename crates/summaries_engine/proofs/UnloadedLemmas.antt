@@ -2,19 +2,10 @@
 use Rattle.std.proofs.Common.{◌≡◌, ◌⊎◌, inl, inr, ℕ, ◌<◌, false, List, ◌++◌, take, Option, Some, None, IfSome, sym, subst, ◌∙◌}
 use Rattle.std.specs.declared.io.ErrorKind.{ErrorKind}
 use Rattle.std.specs.Fmt.{option_append}
-use Rattle.std.specs.List.{starts_with}
-use Rattle.std.specs.Prelude.{nat_eq}
-use Rattle.anyhow.specs.Error.{HasMessage}
-use Rattle.anyhow.specs.declared.error.Error.{Error}
+use Rattle.summaries_engine.proofs.Common.{starts_with, nat_eq, HasMessage, Error, Layout, Form, AnyFilter, Stop, Memory, Input, Bad, Output, parts_of}
 use Rattle.bloom_files.specs.declared.error.FileError.{FileError}
 use Rattle.bloom_files.specs.declared.error.FileError.TheVariants as file_error
-use Rattle.bloom_files.specs.declared.layout.Layout.{Layout}
 use Rattle.bloom_files.specs.FileLayouts.{IsReadIn, refusal_in}
-use Rattle.summaries_engine.specs.declared.form.Form.{Form}
-use Rattle.summaries_engine.specs.declared.kinds.AnyFilter.{AnyFilter}
-use Rattle.summaries_engine.specs.declared.stop.Stop.{Stop}
-use Rattle.summaries_engine.specs.declared.stop.Stop.TheVariants.{Memory, Input, Bad, Output}
-use Rattle.summaries_engine.specs.Kinds.{parts_of}
 use Rattle.summaries_engine.specs.Loaded.{HasHashesOf, IsInForm, IsRightIn, IsRightOf, IsRightWith, IsReportedOf, IsUnread, hashes_text, head_layout, mark_bytes}
 use Rattle.summaries_engine.specs.Stops.{IsBad, IsInputStop, IsMemory}
 use Rattle.summaries_engine.proofs.LoadedLemmas.{HasRead, layout-first, no-mark}

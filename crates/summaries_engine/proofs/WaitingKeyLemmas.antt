@@ -1,24 +1,10 @@
 -- Keys that waited are answered, or their hashes taken, behind those that were before.
 use Rattle.std.proofs.Common.{◌≡◌, ◌⊎◌, inl, inr, ℕ, ◌+◌, ◌≤◌, List, [], ◌++◌, map, length, length-append, Option, Some, None, sym, subst, ◌∙◌, ap, append_assoc, append-nil, arith}
-use Rattle.std.proofs.lemmas.List.{map-append}
-use Rattle.std.proofs.lemmas.List.Elements.{All-append}
-use Rattle.std.proofs.KnownBytes.{Appends-kept, Appends-trans}
-use Rattle.std.proofs.lemmas.List.{length-map}
+use Rattle.summaries_engine.proofs.Common.{map-append, All-append, Appends-kept, Appends-trans, length-map, sip, KnowsEnd, Waiting, AppendsPart, part-second, Wanted, AnyFilter, wanted_text, AnswersFirst, AnswersPart, CutsKeys, HashesFirst, Stop, IsUnwritten, StopsWriting, HasTaken}
 use Rattle.std.specs.Io.KnownBytes.{Appends, Keeps, prepend_known}
-use Rattle.bloom_parts.specs.Sip.{sip}
 use Rattle.lines.specs.Lines.{IsEndedBy, lines_by}
-use Rattle.lines.specs.Reading.{KnowsEnd, Waiting}
-use Rattle.lines.specs.Writing.{AppendsPart}
 use Rattle.lines.proofs.LineLemmas.{IsEnded-append, lines_by-nil}
 use Rattle.lines.proofs.TakenLemmas.{IsReadFrom-taken, TakesLinesBy, nil-back, nil-front}
-use Rattle.lines.proofs.WritingLemmas.{part-second}
-use Rattle.summaries_engine.specs.declared.answers.Wanted.{Wanted}
-use Rattle.summaries_engine.specs.declared.kinds.AnyFilter.{AnyFilter}
-use Rattle.summaries_engine.specs.Answers.{wanted_text}
-use Rattle.summaries_engine.specs.Batches.{AnswersFirst, AnswersPart, CutsKeys, HashesFirst}
-use Rattle.summaries_engine.specs.declared.stop.Stop.{Stop}
-use Rattle.summaries_engine.specs.Stops.{IsUnwritten, StopsWriting}
-use Rattle.summaries_engine.specs.Fillers.{HasTaken}
 use Rattle.summaries_engine.proofs.KeyLemmas.{IsTaking}
 use Rattle.summaries_engine.proofs.AskingLemmas.{IsAnswering, wanted_text-append}
 

@@ -1,10 +1,8 @@
 -- What calls answer of what a pass knows or can be sure of.
 use Rattle.std.proofs.Common.{◌≡◌, ℕ, Bool, true, false, ◌||◌, inl, inr, refl, sym, ap, ◌∙◌, subst, arith}
 use Rattle.std.proofs.lemmas.Bool.{both_ways, cases_Bool, or_cases, or_left, or_right, true_from_ne_false}
-use Rattle.bloom_parts.specs.Content.{content}
-use Rattle.bloom_parts.specs.Places.{IsPart, place, positions, are_in}
+use Rattle.fastbloom.proofs.Common.{content, IsPart, place, positions, are_in, Sight, SeatedFilter, known_of, gained_of, sure_of, seated_num_bits, seated_positions, contains_known, IsSure, IsSamePass, InsertsAs, Finds}
 use Rattle.bloom_parts.proofs.PublishedLemmas.{position-from, position-to, place-position, part-to, are_in-off}
-use Rattle.fastbloom.specs.Passes.{Sight, SeatedFilter, known_of, gained_of, sure_of, seated_num_bits, seated_positions, contains_known, IsSure, IsSamePass, InsertsAs, Finds}
 
 -- a pass stays sure of what it was sure of as it comes to know more
 pub sure-kept : (old new : Sight) → IsSamePass old new → IsPart (known_of old) (known_of new)

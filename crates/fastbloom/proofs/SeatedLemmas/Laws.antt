@@ -2,16 +2,10 @@
 use Rattle.std.proofs.Common.{◌≡◌, ℕ, suc, ◌≤◌, ◌/◌, Bool, true, false, ◌||◌, ◌&&◌, eqb, List, [], ◌∷◌, sum_by, count_by, if◌then◌else◌, cond, Some, None, unwrap_or, inl, inr, refl, ◌∙◌, arith}
 use mathlib.Core.Option.{some}
 use lib.ListN.{get_elem?}
-use Rattle.std.proofs.lemmas.Bool.{or_left, or_right}
+use Rattle.fastbloom.proofs.Common.{or_left, or_right, bit_is_on, content, IsPart, Sight, known_of, seated_num_bits, seated_positions, InsertsAs, passes_of, First, Pass, Note, Spent, Sets}
 use Rattle.std.proofs.lemmas.List.Sums.{sum_by-cons}
-use Rattle.bloom_parts.specs.Content.{bit_is_on, content}
-use Rattle.bloom_parts.specs.Places.{IsPart}
-use Rattle.fastbloom.specs.Passes.{Sight, known_of, seated_num_bits, seated_positions, InsertsAs}
-use Rattle.fastbloom.specs.Rule.{passes_of}
 use Rattle.fastbloom.specs.SeatedLaws.{SureFoundLaw, InsertedLaw, KnownLaw, StaysLaw, MetLaw, FewLaw, OrLaw, is_pass, is_pass_role}
 use Rattle.fastbloom.specs.declared.seated.rule.Role.{Role}
-use Rattle.fastbloom.specs.declared.seated.rule.Role.TheVariants.{First, Pass, Note, Spent}
-use Rattle.fastbloom.specs.declared.seated.rule.Sets.{Sets}
 use Rattle.fastbloom.proofs.SeatedLemmas.Calls.{finds-sure, inserts-sure, known-sure}
 use Rattle.fastbloom.proofs.SeatedLemmas.Words.{content-with_bits}
 

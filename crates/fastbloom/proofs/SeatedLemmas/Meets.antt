@@ -1,20 +1,12 @@
 -- Passes that meet, and the words in the end.
 use Rattle.std.proofs.Common.{◌≡◌, ℕ, ◌/◌, ◌+◌, ◌<◌, true, false, List, [], ◌∷◌, ◌++◌, length, take, get_or, zero, suc, inl, inr, sym, ap, ◌∙◌, subst, arith, le_refl}
-use Rattle.std.proofs.lemmas.Bool.{both_ways, cases_lt, or_cases}
+use Rattle.fastbloom.proofs.Common.{both_ways, cases_lt, or_cases, content, IsPart, content-past, set_of, IsSeated, FilterSeat, note_of, informed, Views, Sets}
 use Rattle.std.proofs.lemmas.List.{take_more, take_all}
 use mathlib.Core.Option.{some, some-injective, some-ne-none}
 use lib.ListN.{get_elem?}
 use Rattle.atomic_table.specs.Table.{Final, Seen}
-use Rattle.bloom_parts.specs.Content.{content}
-use Rattle.bloom_parts.specs.Places.{IsPart}
-use Rattle.bloom_parts.proofs.PublishedLemmas.{content-past}
-use Rattle.fastbloom.specs.Sets.{set_of}
-use Rattle.fastbloom.specs.Rule.{IsSeated}
-use Rattle.fastbloom.specs.Plays.{FilterSeat, note_of, informed}
-use Rattle.fastbloom.specs.Loads.{Views}
 use Rattle.fastbloom.specs.Passes.{Sight, sight_of, known_of, either_of, Meets, Closes}
 use Rattle.fastbloom.specs.Seats.{IsPassSeat}
-use Rattle.fastbloom.specs.declared.seated.rule.Sets.{Sets}
 use Rattle.fastbloom.proofs.SeatedLemmas.Sets.{in-left, in-right}
 use Rattle.fastbloom.proofs.SeatedLemmas.Steps.Passes.{pass-not_spent}
 

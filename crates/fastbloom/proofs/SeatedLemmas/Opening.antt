@@ -4,12 +4,8 @@ use mathlib.Core.Option.{none, some, some-ne-none}
 use lib.ListN.{get_elem?}
 use Rattle.std.proofs.lemmas.List.{length-replicate, set-get_or}
 use Rattle.atomic_table.specs.Table.{step, keeps, Allows, opening as opened}
-use Rattle.bloom_parts.specs.Content.{content}
-use Rattle.fastbloom.specs.Sets.{set_of}
-use Rattle.fastbloom.specs.Rule.{Standing, Has, IsSeated, passes_of, first_view}
+use Rattle.fastbloom.proofs.Common.{content, set_of, Standing, Has, IsSeated, passes_of, first_view, Sets, Pass}
 use Rattle.fastbloom.specs.Plays.{Sat, with_bits, put_in, settled, IsFirst, IsFresh}
-use Rattle.fastbloom.specs.declared.seated.rule.Sets.{Sets}
-use Rattle.fastbloom.specs.declared.seated.rule.Role.TheVariants.{Pass}
 use Rattle.fastbloom.proofs.SeatedLemmas.Sets.{in-none}
 use Rattle.fastbloom.proofs.SeatedLemmas.Rules.Seats.{only-view}
 

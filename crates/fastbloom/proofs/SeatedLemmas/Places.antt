@@ -1,10 +1,7 @@
 -- The places of a hash, one after the other.
 use Rattle.std.proofs.Common.{◌≡◌, ℕ, suc, ◌+◌, ◌*◌, ◌/◌, Bool, true, false, ◌||◌, ◌&&◌, eqb, inl, inr, refl, sym, ap, ◌∙◌, subst, arith}
-use Rattle.bloom_parts.specs.Chain.{chain}
+use Rattle.fastbloom.proofs.Common.{chain, place, positions, LooksAt, Sight, InsertsAs, Looks, GrowsBeside}
 use Rattle.bloom_parts.specs.Content.{index_of}
-use Rattle.bloom_parts.specs.Places.{place, positions}
-use Rattle.fastbloom.specs.Loads.{LooksAt}
-use Rattle.fastbloom.specs.Passes.{Sight, InsertsAs, Looks, GrowsBeside}
 use Rattle.fastbloom.proofs.SeatedLemmas.Passes.Inserting.{inserts-none, inserts-then, inserts-as}
 
 -- where the next hash of the chain lies among these bits is the next place

@@ -4,8 +4,7 @@ use Rattle.std.proofs.lemmas.Nat.{mod-pow-add, or_shifted, or_comm, pow_pos}
 use Rattle.std.proofs.lemmas.Nat.Bits.{bit_at-lt}
 use Rattle.std.specs.Int.{bit_at}
 use lib.Seq.{set-set}
-use Rattle.fastbloom.specs.Plays.{FilterSeat, IsFirst, Puts, with_bits}
-use Rattle.fastbloom.specs.declared.seated.rule.Sets.{Sets}
+use Rattle.fastbloom.proofs.Common.{FilterSeat, IsFirst, Puts, with_bits, Sets}
 
 -- the low bits of a number, and one more
 low-more : (value bit : ℕ) → value % 2 ^ (bit + 1) ≡ bit_at value bit * 2 ^ bit + value % 2 ^ bit

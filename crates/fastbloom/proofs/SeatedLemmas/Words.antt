@@ -1,11 +1,8 @@
 -- The content of words as one of them changes.
 use Rattle.std.proofs.Common.{◌≡◌, ◌≢◌, ℕ, ◌/◌, ◌<◌, ◌||◌, ◌&&◌, eqb, bit_or, List, length, get_or, set, sym, ap, ◌∙◌, inl, inr}
-use Rattle.std.proofs.Math.Bool.{or-false}
-use Rattle.std.proofs.lemmas.Bool.{cases_eq, eq-eqb, ne_eqb}
+use Rattle.fastbloom.proofs.Common.{or-false, cases_eq, eq-eqb, ne_eqb, bit_is_on, content, with_bits}
 use Rattle.std.proofs.lemmas.List.{get_or-set_same, get_or-set_other}
-use Rattle.bloom_parts.specs.Content.{bit_is_on, content}
 use Rattle.bloom_parts.proofs.PublishedLemmas.{bit_is_on-or}
-use Rattle.fastbloom.specs.Plays.{with_bits}
 
 -- a position of word i
 pub content-word : (words : List ℕ) (i p : ℕ) → p / 64 ≡ i

@@ -1,6 +1,5 @@
 use Rattle.std.proofs.Common.{◌≡◌, ◌≤◌, ◌==◌, ◌/◌, length, take}
-use Rattle.bloom_parts.specs.Content.{content}
-use Rattle.bloom_blocked.specs.Many.{all_are_in_lines}
+use Rattle.bloom_blocked.proofs.Common.{content, all_are_in_lines}
 use Rattle.bloom_blocked.proofs.many.all_are_set.Given as goal
 
 -- as many hashes were found as looked up exactly if all these are contained

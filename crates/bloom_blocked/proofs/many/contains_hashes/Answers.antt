@@ -1,6 +1,5 @@
 use Rattle.std.proofs.Common.{◌*◌, ◌/◌, length, arith, rules}
-use Rattle.bloom_parts.specs.Content.{content}
-use Rattle.bloom_blocked.specs.Lines.{are_in_line}
+use Rattle.bloom_blocked.proofs.Common.{content, are_in_line}
 use Rattle.bloom_blocked.proofs.TellLemmas.{found-part, tells-turn}
 use Rattle.bloom_blocked.proofs.many.contains_hashes.Goals as goal
 

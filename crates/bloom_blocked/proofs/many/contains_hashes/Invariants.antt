@@ -1,7 +1,5 @@
 use Rattle.std.proofs.Common.{◌≡◌, ◌*◌, ◌/◌, ◌&&◌, ℕ, length, nat_lt}
-use Rattle.bloom_parts.specs.Content.{content}
-use Rattle.bloom_parts.specs.Many.{is_found}
-use Rattle.bloom_blocked.specs.Lines.{are_in_line}
+use Rattle.bloom_blocked.proofs.Common.{content, is_found, are_in_line}
 use Rattle.bloom_blocked.proofs.many.contains_hashes.Given as goal
 
 -- the words so far tell whether their hashes are contained, and no other bit is set

@@ -1,7 +1,5 @@
 use Rattle.std.proofs.Common.{◌≡◌, ◌/◌, ◌&&◌, ◌∷◌, [], ℕ, length, nat_lt}
-use Rattle.bloom_parts.specs.Content.{content}
-use Rattle.bloom_parts.specs.Many.{is_found}
-use Rattle.bloom_blocked.specs.Lines.{are_in_line}
+use Rattle.bloom_blocked.proofs.Common.{content, is_found, are_in_line}
 use Rattle.bloom_blocked.proofs.many.found_bits.Given as goal
 
 -- the bits of the hashes so far tell whether these are contained, and no other is set

@@ -1,6 +1,5 @@
 use Rattle.std.proofs.Common.{◌≡◌, ◌/◌, ◌||◌, ℕ, length, take}
-use Rattle.bloom_parts.specs.Content.{content}
-use Rattle.bloom_blocked.specs.Many.{positions_in_lines}
+use Rattle.bloom_blocked.proofs.Common.{content, positions_in_lines}
 use Rattle.bloom_blocked.proofs.many.insert_each.Given as goal
 
 -- the positions of the hashes so far were set

@@ -1,8 +1,5 @@
 use Rattle.std.proofs.Common.{◌≡◌, ◌+◌, ◌*◌, ◌/◌, length, ◌∙◌, arith}
-use Rattle.std.proofs.Math.Seq.{take-length}
-use Rattle.bloom_parts.specs.Content.{content}
-use Rattle.bloom_parts.proofs.PublishedLemmas.{many-stretch}
-use Rattle.bloom_blocked.specs.Lines.{line_positions}
+use Rattle.bloom_blocked.proofs.Common.{take-length, content, many-stretch, line_positions}
 use Rattle.bloom_blocked.proofs.many.insert_hashes.Goals as goal
 
 pub turns-preserved : goal.turns-preserved

@@ -1,7 +1,5 @@
 use Rattle.std.proofs.Common.{◌/◌, length, sym, ◌∙◌}
-use Rattle.bloom_parts.specs.Content.{content}
-use Rattle.bloom_parts.proofs.PublishedLemmas.{many-contained}
-use Rattle.bloom_blocked.specs.Lines.{are_in_line, line_positions}
+use Rattle.bloom_blocked.proofs.Common.{content, many-contained, are_in_line, line_positions}
 use Rattle.bloom_blocked.proofs.PositionLemmas.{line_subset_law}
 use Rattle.bloom_blocked.proofs.many.insert_unless_full.Goals as goal
 

@@ -1,7 +1,6 @@
 use Rattle.std.proofs.Common.{◌≡◌, ◌*◌, ◌||◌, ℕ, length}
 use Rattle.bloom_parts.specs.Chain.{IsAt}
-use Rattle.bloom_parts.specs.Content.{content}
-use Rattle.bloom_parts.specs.Places.{positions}
+use Rattle.bloom_blocked.proofs.Common.{content, positions}
 use Rattle.bloom_blocked.proofs.many.set_positions.Given as goal
 
 -- the first positions were set, and the chain stands after them

@@ -1,7 +1,5 @@
 use Rattle.std.proofs.Common.{◌++◌, length, take_all, ap, arith, ◌∙◌}
-use Rattle.bloom_parts.specs.Sip.{sip}
-use Rattle.bloom_files.specs.File.{bytes_of}
-use Rattle.bloom_files.specs.FileLayouts.{numbers_in, sealed_numbers}
+use Rattle.bloom_files.proofs.Common.{sip, bytes_of, numbers_in, sealed_numbers}
 use Rattle.bloom_files.proofs.NumberLemmas.{length-bytes_of}
 use Rattle.bloom_files.proofs.SealLemmas.{seal-begins, seal-goes_on}
 use Rattle.bloom_files.proofs.head.right_seal.Goals as goal

@@ -1,7 +1,5 @@
 use Rattle.std.proofs.Common.{◌++◌, take}
-use Rattle.bloom_parts.specs.Hashed.{Hashed}
-use Rattle.bloom_files.specs.File.{bytes_of}
-use Rattle.bloom_files.specs.FileLayouts.{sealed_numbers}
+use Rattle.bloom_files.proofs.Common.{Hashed, bytes_of, sealed_numbers}
 use Rattle.bloom_files.proofs.head.right_seal.Given as goal
 
 -- what the seal covers of the head, and the words so far, are taken in

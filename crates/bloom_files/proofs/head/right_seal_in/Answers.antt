@@ -1,6 +1,5 @@
 use Rattle.std.proofs.Common.{◌-◌, ◌++◌, length, length-drop, drop, take_all, ap, arith, ◌∙◌}
-use Rattle.bloom_parts.specs.Sip.{sip}
-use Rattle.bloom_files.specs.FileLayouts.{sealed_bytes}
+use Rattle.bloom_files.proofs.Common.{sip, sealed_bytes}
 use Rattle.bloom_files.proofs.head.right_seal_in.Goals as goal
 
 pub returns : goal.returns

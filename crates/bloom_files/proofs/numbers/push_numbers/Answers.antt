@@ -1,6 +1,5 @@
 use Rattle.std.proofs.Common.{◌++◌, ap, sym, ◌∙◌, arith, take_all}
-use Rattle.std.specs.Prelude.{map}
-use Rattle.std.specs.Int.{w64, from_le_bytes}
+use Rattle.bloom_files.proofs.Common.{map, w64, from_le_bytes}
 use Rattle.bloom_files.proofs.NumberLemmas.{bytes-again, whole_words-chunks}
 use Rattle.bloom_files.proofs.numbers.push_numbers.Goals as goal
 

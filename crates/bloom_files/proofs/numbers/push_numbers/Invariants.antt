@@ -1,6 +1,5 @@
 use Rattle.std.proofs.Common.{◌≡◌, ◌++◌, take, vec_capacity}
-use Rattle.std.specs.Prelude.{map}
-use Rattle.std.specs.Int.{w64, from_le_bytes}
+use Rattle.bloom_files.proofs.Common.{map, w64, from_le_bytes}
 use Rattle.bloom_files.proofs.numbers.push_numbers.Given as goal
 
 -- the numbers so far were appended, and lie in the room that was there

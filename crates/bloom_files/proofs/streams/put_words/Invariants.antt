@@ -1,6 +1,5 @@
 use Rattle.std.proofs.Common.{length}
-use Rattle.lines.proofs.WritingLemmas.{IsWriting}
-use Rattle.bloom_files.specs.File.{bytes_of}
+use Rattle.bloom_files.proofs.Common.{IsWriting, bytes_of}
 use Rattle.bloom_files.proofs.streams.put_words.Given as goal
 
 -- all words but the rest were written

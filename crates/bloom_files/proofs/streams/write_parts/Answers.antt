@@ -1,12 +1,7 @@
 use Rattle.std.proofs.Common.{◌++◌, refl, subst, inr, arith}
-use Rattle.std.proofs.KnownBytes.{Appends-trans}
-use Rattle.std.proofs.lemmas.Result.{on_ok_weaker}
+use Rattle.bloom_files.proofs.Common.{Appends-trans, on_ok_weaker, Appends, AppendsPart, bytes_of, right_seal, sealed_file}
 use Rattle.std.specs.Prelude.{◌≡◌, OnErr}
-use Rattle.std.specs.Io.KnownBytes.{Appends}
-use Rattle.lines.specs.Writing.{AppendsPart}
 use Rattle.lines.proofs.WritingLemmas.{part-both}
-use Rattle.bloom_files.specs.File.{bytes_of}
-use Rattle.bloom_files.specs.FileLayouts.{right_seal, sealed_file}
 use Rattle.bloom_files.proofs.FileLemmas.{file-text}
 use Rattle.bloom_files.proofs.streams.write_parts.Goals as goal
 

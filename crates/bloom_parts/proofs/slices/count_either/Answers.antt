@@ -1,9 +1,6 @@
 use Rattle.std.proofs.Common.{◌*◌, ◌^◌, ◌<◌, ◌||◌, slice_index, refl, ◌∙◌, ap, arith}
-use Rattle.std.specs.Int.Bits.{bit_or}
-use Rattle.std.specs.Simd.Lanes.{zip2}
+use Rattle.bloom_parts.proofs.Common.{bit_or, zip2, content, count_on}
 use Rattle.std.proofs.lemmas.Nat.{or_lt}
-use Rattle.bloom_parts.specs.Content.{content}
-use Rattle.bloom_parts.specs.Counts.{count_on}
 use Rattle.bloom_parts.proofs.CountLemmas.{count-same, count_merged-next}
 use Rattle.bloom_parts.proofs.SetLemmas.{content-or}
 use Rattle.bloom_parts.proofs.slices.count_either.Goals as goal

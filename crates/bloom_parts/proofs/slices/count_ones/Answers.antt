@@ -1,6 +1,5 @@
 use Rattle.std.proofs.Common.{◌+◌, ◌*◌, slice_index, count_ones, refl, sym, ◌∙◌, ap, arith}
-use Rattle.bloom_parts.specs.Content.{content}
-use Rattle.bloom_parts.specs.Counts.{count_on}
+use Rattle.bloom_parts.proofs.Common.{content, count_on}
 use Rattle.bloom_parts.proofs.CountLemmas.{count-most, count-word}
 use Rattle.bloom_parts.proofs.slices.count_ones.Goals as goal
 

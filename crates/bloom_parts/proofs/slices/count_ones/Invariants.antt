@@ -1,6 +1,5 @@
 use Rattle.std.proofs.Common.{◌≡◌, ◌*◌, ◌≤◌}
-use Rattle.bloom_parts.specs.Content.{content}
-use Rattle.bloom_parts.specs.Counts.{count_on}
+use Rattle.bloom_parts.proofs.Common.{content, count_on}
 use Rattle.bloom_parts.proofs.slices.count_ones.Given as goal
 
 -- the positions of the words so far were counted

@@ -1,8 +1,6 @@
 use Rattle.std.proofs.Common.{◌≡◌, sym, ◌∙◌, ap, rules, Err, Ok}
 use Rattle.std.proofs.KnownBytes.{Keeps-refl}
-use Rattle.lines.specs.Reading.{left_of}
-use Rattle.duplicates_engine.specs.Causes.{FailsBehind}
-use Rattle.duplicates_engine.specs.Longer.{limit_of}
+use Rattle.duplicates_engine.proofs.Common.{left_of, FailsBehind, limit_of}
 use Rattle.duplicates_engine.proofs.AheadLemmas.{looked-next, looked-none, looked-opened, looked-same}
 use Rattle.duplicates_engine.proofs.CauseLemmas.{opening-system, step-system, refusal-system, caused-first, caused-step, caused-line, caused-writer}
 use Rattle.duplicates_engine.proofs.EndLemmas.{behind-read}

@@ -1,7 +1,6 @@
 -- What steps that set positions do one after the other.
 use Rattle.std.proofs.Common.{◌≡◌, ℕ, Bool, true, false, ◌||◌, ◌&&◌, inl, inr, refl, ap, ◌∙◌, subst}
-use Rattle.std.proofs.lemmas.Bool.{both_ways, or_cases, or_left, or_right, false_from_ne_true, and_parts}
-use Rattle.bloom_parts.specs.Content.{content}
+use Rattle.fastbloom.proofs.Common.{both_ways, or_cases, or_left, or_right, false_from_ne_true, and_parts, content}
 use Rattle.fastbloom.specs.Passes.{Sight, known_of, gained_of, sure_of, HasGained, InsertsAs}
 
 -- no step sets no position

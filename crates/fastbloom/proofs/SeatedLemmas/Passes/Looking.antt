@@ -1,13 +1,6 @@
 -- What the step that loads a word does to what a pass knows.
 use Rattle.std.proofs.Common.{◌≡◌, ℕ, ◌+◌, ◌/◌, Bool, false, inl, inr, refl, sym, ap, ◌∙◌, subst, arith}
-use Rattle.std.proofs.lemmas.Bool.{both_ways, cases_lt, or_cases, or_left, or_right, false_from_ne_true}
-use Rattle.atomic_table.specs.Seated.{TableId}
-use Rattle.bloom_parts.specs.Content.{bit_is_on, content}
-use Rattle.fastbloom.specs.Sets.{set_of, ones_in}
-use Rattle.fastbloom.specs.Plays.{FilterSeat, sure_in, Shows, after_load}
-use Rattle.fastbloom.specs.Loads.{LooksAt, Views}
-use Rattle.fastbloom.specs.Passes.{sight_of}
-use Rattle.fastbloom.specs.declared.seated.rule.Sets.{Sets}
+use Rattle.fastbloom.proofs.Common.{both_ways, cases_lt, or_cases, or_left, or_right, false_from_ne_true, TableId, bit_is_on, content, set_of, ones_in, FilterSeat, sure_in, Shows, after_load, LooksAt, Views, sight_of, Sets}
 use Rattle.fastbloom.proofs.SeatedLemmas.Sets.{in-left, in-right, in-either, on-from, on-to}
 use Rattle.fastbloom.proofs.SeatedLemmas.Passes.Positions.{seen}
 

@@ -1,11 +1,6 @@
 -- A view as a pass, and a position by its word and its mask.
 use Rattle.std.proofs.Common.{◌≡◌, ℕ, ◌/◌, ◌%◌, ◌^◌, eqb, sym, ap, ◌∙◌}
-use Rattle.std.proofs.lemmas.Bool.{eqb-true}
-use Rattle.atomic_table.specs.Seated.{TableId}
-use Rattle.bloom_parts.proofs.PublishedLemmas.{bit_is_on-mask}
-use Rattle.fastbloom.specs.Sets.{set_of, ones_in}
-use Rattle.fastbloom.specs.Passes.{Sight}
-use Rattle.fastbloom.specs.declared.seated.rule.Sets.{Sets}
+use Rattle.fastbloom.proofs.Common.{eqb-true, TableId, bit_is_on-mask, set_of, ones_in, Sight, Sets}
 use Rattle.fastbloom.proofs.SeatedLemmas.Sets.{same-tests, on-from, on-to}
 
 -- a view at a table, as a pass

@@ -1,14 +1,6 @@
 -- What the step that sets a position does to what a pass knows and gained.
 use Rattle.std.proofs.Common.{◌≡◌, ℕ, ◌/◌, ◌%◌, ◌^◌, Bool, true, false, ◌||◌, eqb, inl, inr, refl, sym, ap, ◌∙◌, subst}
-use Rattle.std.proofs.lemmas.Bool.{both_ways, or_right, eqb-true, eq-eqb, false_from_ne_true}
-use Rattle.atomic_table.specs.Seated.{TableId}
-use Rattle.bloom_parts.specs.Content.{bit_is_on, content}
-use Rattle.bloom_parts.specs.Places.{IsPart}
-use Rattle.bloom_parts.proofs.PublishedLemmas.{bit_is_on-mask}
-use Rattle.fastbloom.specs.Sets.{set_of, ones_in, fresh_in}
-use Rattle.fastbloom.specs.Plays.{FilterSeat, sure_in, Shows, after_or}
-use Rattle.fastbloom.specs.Passes.{sight_of, InsertsAs}
-use Rattle.fastbloom.specs.declared.seated.rule.Sets.{Sets}
+use Rattle.fastbloom.proofs.Common.{both_ways, or_right, eqb-true, eq-eqb, false_from_ne_true, TableId, bit_is_on, content, IsPart, bit_is_on-mask, set_of, ones_in, fresh_in, FilterSeat, sure_in, Shows, after_or, sight_of, InsertsAs, Sets}
 use Rattle.fastbloom.proofs.SeatedLemmas.Sets.{in-left, in-right, in-either, set_of-append, fresh-from, fresh-to}
 use Rattle.fastbloom.proofs.SeatedLemmas.Passes.Positions.{seen, mask_of, mask-alone}
 

@@ -3,8 +3,7 @@ use Rattle.std.proofs.Common.{◌≡◌, ℕ, zero, suc, ◌+◌, ◌<◌, List,
 use mathlib.Core.Option.{some, some-injective, some-ne-none}
 use lib.ListN.{get_elem?}
 use Rattle.std.proofs.lemmas.List.Sums.{sum_by-set}
-use Rattle.fastbloom.specs.Rule.{Standing, IsSeated, passes_of}
-use Rattle.fastbloom.specs.declared.seated.rule.Sets.{Sets}
+use Rattle.fastbloom.proofs.Common.{Standing, IsSeated, passes_of, Sets}
 
 -- a seat that has a view is one of them
 pub seat-within : (l : List Sets) (seat : ℕ) (v : Sets) → get_elem? l seat ≡ some v

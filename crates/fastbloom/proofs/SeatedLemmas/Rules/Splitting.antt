@@ -2,15 +2,9 @@
 use Rattle.std.proofs.Common.{◌≡◌, ◌≢◌, ℕ, ◌+◌, ◌≤◌, true, false, [], ◌∷◌, ◌++◌, inl, inr, sym, ap, ◌∙◌, subst}
 use mathlib.Core.Option.{some}
 use lib.ListN.{get_elem?}
-use Rattle.std.proofs.lemmas.Bool.{false_from_ne_true}
+use Rattle.fastbloom.proofs.Common.{false_from_ne_true, content, IsPart, set_of, Standing, Has, IsSeated, passes_of, Sets, First, Pass, Spent}
 use Rattle.std.proofs.lemmas.List.Sums.{sum_by_push}
 use Rattle.atomic_table.proofs.Lists.{at_longer, at_snoc}
-use Rattle.bloom_parts.specs.Content.{content}
-use Rattle.bloom_parts.specs.Places.{IsPart}
-use Rattle.fastbloom.specs.Sets.{set_of}
-use Rattle.fastbloom.specs.Rule.{Standing, Has, IsSeated, passes_of}
-use Rattle.fastbloom.specs.declared.seated.rule.Sets.{Sets}
-use Rattle.fastbloom.specs.declared.seated.rule.Role.TheVariants.{First, Pass, Spent}
 use Rattle.fastbloom.proofs.SeatedLemmas.Sets.{in-none}
 use Rattle.fastbloom.proofs.SeatedLemmas.Rules.Seats.{only-view}
 

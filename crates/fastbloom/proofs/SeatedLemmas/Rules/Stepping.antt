@@ -2,14 +2,8 @@
 use Rattle.std.proofs.Common.{◌≡◌, ◌≢◌, ℕ, ◌≤◌, ◌⊎◌, true, false, List, length, set, sum_by, inl, inr, refl, sym, ap, ◌∙◌, subst}
 use mathlib.Core.Option.{some, some-injective}
 use lib.ListN.{get_elem?}
-use Rattle.std.proofs.lemmas.Bool.{both_ways, cases_eq, false_from_ne_true}
+use Rattle.fastbloom.proofs.Common.{both_ways, cases_eq, false_from_ne_true, content, IsPart, set_of, Standing, Has, IsGained, IsSeated, passes_of, Sets, First, Pass, Spent}
 use Rattle.atomic_table.proofs.Lists.{at_set, set_here, set_else}
-use Rattle.bloom_parts.specs.Content.{content}
-use Rattle.bloom_parts.specs.Places.{IsPart}
-use Rattle.fastbloom.specs.Sets.{set_of}
-use Rattle.fastbloom.specs.Rule.{Standing, Has, IsGained, IsSeated, passes_of}
-use Rattle.fastbloom.specs.declared.seated.rule.Sets.{Sets}
-use Rattle.fastbloom.specs.declared.seated.rule.Role.TheVariants.{First, Pass, Spent}
 use Rattle.fastbloom.proofs.SeatedLemmas.Rules.Seats.{seat-within, only-view}
 
 -- what a seat's step does to its view, and to the words

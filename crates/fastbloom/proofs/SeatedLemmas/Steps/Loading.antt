@@ -1,14 +1,8 @@
 -- A load by a pass keeps the rule.
 use Rattle.std.proofs.Common.{◌≡◌, ℕ, ◌<◌, length, set, get_or, length-set, inl, inr, refl, sym, ◌∙◌, arith}
 use mathlib.Core.Option.{none}
-use Rattle.atomic_table.specs.Table.{step, keeps, Allows}
-use Rattle.bloom_parts.specs.Content.{content}
-use Rattle.bloom_parts.specs.Places.{IsPart}
-use Rattle.fastbloom.specs.Sets.{set_of, ones_in}
-use Rattle.fastbloom.specs.Rule.{IsSeated}
+use Rattle.fastbloom.proofs.Common.{step, keeps, Allows, content, IsPart, set_of, ones_in, IsSeated, Sets, Pass}
 use Rattle.fastbloom.specs.Plays.{Sat, after_load, loaded}
-use Rattle.fastbloom.specs.declared.seated.rule.Sets.{Sets}
-use Rattle.fastbloom.specs.declared.seated.rule.Role.TheVariants.{Pass}
 use Rattle.fastbloom.proofs.SeatedLemmas.Sets.{in-left, in-either, on-from}
 use Rattle.fastbloom.proofs.SeatedLemmas.Words.{content-word, content-same}
 use Rattle.fastbloom.proofs.SeatedLemmas.Rules.Seats.{as-many}

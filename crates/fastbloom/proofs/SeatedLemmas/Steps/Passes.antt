@@ -1,13 +1,6 @@
 -- What holds of the seat of a pass as it makes a step.
 use Rattle.std.proofs.Common.{◌≡◌, ◌≢◌, ℕ, true, set, get_or, sum_by, inl, inr, sym, ◌∙◌, subst, arith}
-use Rattle.std.proofs.lemmas.Bool.{or_cases}
-use Rattle.bloom_parts.specs.Content.{content}
-use Rattle.bloom_parts.specs.Places.{IsPart}
-use Rattle.fastbloom.specs.Sets.{set_of}
-use Rattle.fastbloom.specs.Rule.{Standing, Has, IsSeated, passes_of}
-use Rattle.fastbloom.specs.Plays.{sure_in, Shows}
-use Rattle.fastbloom.specs.declared.seated.rule.Sets.{Sets}
-use Rattle.fastbloom.specs.declared.seated.rule.Role.TheVariants.{First, Pass, Spent}
+use Rattle.fastbloom.proofs.Common.{or_cases, content, IsPart, set_of, Standing, Has, IsSeated, passes_of, sure_in, Shows, Sets, First, Pass, Spent}
 use Rattle.fastbloom.proofs.SeatedLemmas.Words.{content-word}
 use Rattle.fastbloom.proofs.SeatedLemmas.Rules.Seats.{passes-set}
 

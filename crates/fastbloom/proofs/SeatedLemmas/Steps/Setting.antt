@@ -1,15 +1,8 @@
 -- An `|` by a pass keeps the rule.
 use Rattle.std.proofs.Common.{◌≡◌, ℕ, ◌/◌, ◌<◌, ◌⊎◌, true, ◌||◌, ◌&&◌, eqb, length, get_or, bit_or, length-set, inl, inr, refl, sym, ◌∙◌, arith}
 use mathlib.Core.Option.{none}
-use Rattle.std.proofs.lemmas.Bool.{cases_Bool, or_cases, or_left, or_right, and_parts, and_from, eqb-true, eq-eqb}
-use Rattle.atomic_table.specs.Table.{step, keeps, Allows}
-use Rattle.bloom_parts.specs.Content.{bit_is_on, content}
-use Rattle.bloom_parts.specs.Places.{IsPart}
-use Rattle.fastbloom.specs.Sets.{set_of, ones_in, fresh_in}
-use Rattle.fastbloom.specs.Rule.{Standing, Has, IsSeated}
+use Rattle.fastbloom.proofs.Common.{cases_Bool, or_cases, or_left, or_right, and_parts, and_from, eqb-true, eq-eqb, step, keeps, Allows, bit_is_on, content, IsPart, set_of, ones_in, fresh_in, Standing, Has, IsSeated, Sets, Pass}
 use Rattle.fastbloom.specs.Plays.{Sat, after_or, bits_set, with_bits}
-use Rattle.fastbloom.specs.declared.seated.rule.Sets.{Sets}
-use Rattle.fastbloom.specs.declared.seated.rule.Role.TheVariants.{Pass}
 use Rattle.fastbloom.proofs.SeatedLemmas.Sets.{in-left, in-right, in-either, on-from, on-to, fresh-from, fresh-to}
 use Rattle.fastbloom.proofs.SeatedLemmas.Words.{content-word, content-with_bits}
 use Rattle.fastbloom.proofs.SeatedLemmas.Rules.Seats.{as-many}

@@ -2,13 +2,8 @@
 use Rattle.std.proofs.Common.{◌≡◌, ◌≢◌, ℕ, ◌<◌, ◌≤◌, true, List, [], ◌∷◌, ◌++◌, set, inl, inr, refl, sym, ap, ◌∙◌, subst, arith, le_refl}
 use Rattle.atomic_table.specs.Table.{Splits, Joins}
 use Rattle.atomic_table.proofs.Lists.{set_again, set_else, set_here}
-use Rattle.bloom_parts.specs.Content.{content}
-use Rattle.bloom_parts.specs.Places.{IsPart}
-use Rattle.fastbloom.specs.Sets.{set_of}
-use Rattle.fastbloom.specs.Rule.{Standing, Has, IsSeated}
+use Rattle.fastbloom.proofs.Common.{content, IsPart, set_of, Standing, Has, IsSeated, Sets, First, Pass, Note, Spent}
 use Rattle.fastbloom.specs.Plays.{IsFresh, less_one, one_of, note_of, informed, spent_view, Sat}
-use Rattle.fastbloom.specs.declared.seated.rule.Sets.{Sets}
-use Rattle.fastbloom.specs.declared.seated.rule.Role.TheVariants.{First, Pass, Note, Spent}
 use Rattle.fastbloom.proofs.SeatedLemmas.Sets.{in-none, in-left, in-either}
 use Rattle.fastbloom.proofs.SeatedLemmas.Rules.Seats.{seat-within, passes-set, as-many}
 use Rattle.fastbloom.proofs.SeatedLemmas.Rules.Stepping.{IsStep, kept-by-step}

@@ -1,8 +1,6 @@
 use Rattle.std.proofs.Common.{◌≡◌, inr, Err, rules, subst}
 use Rattle.std.proofs.lemmas.Result.{IfErr-weaker}
-use Rattle.lines.specs.Writing.{AppendsPart}
-use Rattle.std.specs.Io.KnownBytes.{Appends}
-use Rattle.summaries_engine.specs.Stops.{IsUnwritten}
+use Rattle.summaries_engine.proofs.Common.{AppendsPart, Appends, IsUnwritten}
 use Rattle.summaries_engine.proofs.AskingLemmas.{answering-end, answering-flushed, answering-next, answering-none, on-ok}
 use Rattle.summaries_engine.proofs.BatchLemmas.{reply-hashed}
 use Rattle.summaries_engine.proofs.WaitingKeyLemmas.{answering-batch, answering-kept, asking-batch-cut}

@@ -1,6 +1,5 @@
 use Rattle.std.proofs.Common.{string_bytes}
-use Rattle.std.proofs.lemmas.Result.{IfOk-weaker}
-use Rattle.summaries_engine.specs.Comparing.{TellsBoth}
+use Rattle.summaries_engine.proofs.Common.{IfOk-weaker, TellsBoth}
 use Rattle.summaries_engine.proofs.comparing.compared.Goals as goal
 
 -- the lines are those of estimates of the two filters, which have one shape

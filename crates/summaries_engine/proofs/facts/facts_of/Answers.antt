@@ -1,8 +1,6 @@
 use Rattle.std.proofs.Common.{◌≡◌, ◌++◌, ◌∙◌, IfOk, ap, rules, string_bytes, subst, sym}
-use Rattle.std.proofs.lemmas.Result.{IfOk-weaker}
-use Rattle.summaries_engine.specs.declared.kinds.AnyFilter.TheVariants.{Classic}
+use Rattle.summaries_engine.proofs.Common.{IfOk-weaker, Classic, parts_of}
 use Rattle.summaries_engine.specs.Facts.{TellsFilter, estimates_text, lines_text}
-use Rattle.summaries_engine.specs.Kinds.{parts_of}
 use Rattle.summaries_engine.proofs.facts.facts_of.Goals as goal
 
 -- the lines are those of an estimate

@@ -1,7 +1,5 @@
 use Rattle.std.proofs.Common.{◌≡◌, ◌++◌, ◌∙◌, IfOk, ap, codes, rules, string_bytes, subst, sym}
-use Rattle.std.proofs.lemmas.Result.{IfOk-weaker}
-use Rattle.summaries_engine.specs.declared.kinds.AnyFilter.TheVariants.{Classic}
-use Rattle.summaries_engine.specs.Kinds.{parts_of}
+use Rattle.summaries_engine.proofs.Common.{IfOk-weaker, Classic, parts_of}
 use Rattle.summaries_engine.specs.Scripts.{TellsScript, items_script, parts_script, rate_script}
 use Rattle.summaries_engine.proofs.script.script_of.Goals as goal
 

@@ -1,6 +1,5 @@
 use Rattle.std.proofs.Common.{◌∙◌}
-use Rattle.std.proofs.lemmas.Result.{IfOk-weaker}
-use Rattle.summaries_engine.specs.Sizes.{HasSeed, IsEmpty, IsSizedFor}
+use Rattle.summaries_engine.proofs.Common.{IfOk-weaker, HasSeed, IsEmpty, IsSizedFor}
 use Rattle.summaries_engine.proofs.EmptyLemmas.{empty-made, key-made, sized-made}
 use Rattle.summaries_engine.proofs.sizes.blocked_for.Goals as goal
 

@@ -1,6 +1,5 @@
 use Rattle.std.proofs.Common.{◌∙◌}
-use Rattle.std.proofs.lemmas.Result.{IfOk-weaker}
-use Rattle.summaries_engine.specs.Sizes.{HasSeed, IsEmpty, IsClassicFor}
+use Rattle.summaries_engine.proofs.Common.{IfOk-weaker, HasSeed, IsEmpty, IsClassicFor}
 use Rattle.summaries_engine.proofs.EmptyLemmas.{classic-empty, classic-key, classic-sized}
 use Rattle.summaries_engine.proofs.sizes.classic_for.Goals as goal
 

@@ -1,8 +1,6 @@
 use Rattle.std.proofs.Common.{[], ◌∙◌, ap, map, subst}
 use denote.Param.Send.{sendable}
-use Rattle.bloom_parts.specs.Keys.{key_of}
-use Rattle.summaries_engine.specs.declared.kinds.AnyFilter.TheVariants.{Classic}
-use Rattle.summaries_engine.specs.Inputs.{HashesInputs}
+use Rattle.summaries_engine.proofs.Common.{key_of, Classic, HashesInputs}
 use Rattle.summaries_engine.proofs.CrewLemmas.{hold-takes}
 use Rattle.summaries_engine.proofs.FillerLemmas.{keyed-made, summary-made}
 use Rattle.summaries_engine.proofs.summary.build.Goals as goal

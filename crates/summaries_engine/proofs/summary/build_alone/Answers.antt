@@ -1,11 +1,5 @@
 use Rattle.std.proofs.Common.{◌≡◌, ◌∙◌, ap, map, subst}
-use Rattle.std.proofs.lemmas.Result.{IfOk-weaker}
-use Rattle.bloom_parts.specs.Keys.{key_of}
-use Rattle.fastbloom.specs.declared.parallel.shape.Shape.{Shape}
-use Rattle.summaries_engine.specs.Answers.{IsKeyed}
-use Rattle.summaries_engine.specs.Inputs.{HashesInputs, SummarizesInputs}
-use Rattle.summaries_engine.specs.Kinds.{HaveSameKind, parts_of}
-use Rattle.summaries_engine.specs.Sizes.{IsShapeOf}
+use Rattle.summaries_engine.proofs.Common.{IfOk-weaker, key_of, Shape, IsKeyed, HashesInputs, SummarizesInputs, HaveSameKind, parts_of, IsShapeOf}
 use Rattle.summaries_engine.proofs.FillerLemmas.{keyed-made, summary-made}
 use Rattle.summaries_engine.proofs.summary.build_alone.Goals as goal
 

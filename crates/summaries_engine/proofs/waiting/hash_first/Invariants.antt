@@ -1,6 +1,5 @@
 use Rattle.std.proofs.Common.{◌≡◌, ◌≤◌, ◌-◌, ℕ, length, take}
-use Rattle.bloom_parts.specs.Keys.{HasKey}
-use Rattle.summaries_engine.specs.Batches.{HashesFirst}
+use Rattle.summaries_engine.proofs.Common.{HasKey, HashesFirst}
 use Rattle.summaries_engine.proofs.waiting.hash_first.Given as goal
 
 -- the keys so far were hashed

@@ -1,8 +1,6 @@
 use Rattle.std.proofs.Common.{◌≡◌, subst}
-use Rattle.bloom_blocked.specs.Blocked.{InsertsItemsInLines}
+use Rattle.bloom_blocked.proofs.Common.{InsertsItemsInLines, sized_in_lines, inserts_all-same}
 use Rattle.bloom_plain.specs.SourceHash.{lent_hash_of}
-use Rattle.bloom_blocked.specs.BlockedSizing.{sized_in_lines}
-use Rattle.bloom_plain.proofs.BuilderLemmas.{inserts_all-same}
 use Rattle.bloom_blocked.proofs.builder.BlockedBuilderWithBits.items.Goals as goal
 
 pub returns-clause-content : goal.returns-clause-content

@@ -1,9 +1,6 @@
 use Rattle.std.proofs.Common.{◌/◌, ◌||◌, ◌&&◌, ◌==◌, ◌∷◌, [], not, length, slice_index, sym, ap, ◌∙◌, rules}
-use Rattle.std.proofs.Math.Bool.{or-false}
-use Rattle.bloom_parts.specs.Content.{content}
-use Rattle.bloom_parts.specs.Many.{is_new}
+use Rattle.bloom_blocked.proofs.Common.{or-false, content, is_new, are_in_line, line_positions}
 use Rattle.bloom_parts.proofs.PublishedLemmas.{bits-next, many-next, no-bit}
-use Rattle.bloom_blocked.specs.Lines.{are_in_line, line_positions}
 use Rattle.bloom_blocked.proofs.many.telling.insert_each_telling.Goals as goal
 
 pub hashes-init : goal.hashes-init

@@ -1,7 +1,5 @@
 use Rattle.std.proofs.Common.{◌≡◌, ◌/◌, ◌&&◌, ◌∷◌, [], ℕ, length, nat_lt, take}
-use Rattle.bloom_parts.specs.Content.{content}
-use Rattle.bloom_parts.specs.Many.{is_new, with_all}
-use Rattle.bloom_blocked.specs.Lines.{are_in_line, line_positions}
+use Rattle.bloom_blocked.proofs.Common.{content, is_new, with_all, are_in_line, line_positions}
 use Rattle.bloom_blocked.proofs.many.telling.insert_each_telling.Given as goal
 
 -- the hashes so far were inserted, their bits tell which were new, and no other is set

@@ -1,8 +1,5 @@
 use Rattle.std.proofs.Common.{◌≡◌, ◌≤◌, ◌*◌, ◌+◌, length, min, arith, rules}
-use Rattle.std.proofs.Math.Seq.{take-length}
-use Rattle.bloom_parts.specs.Content.{content}
-use Rattle.bloom_parts.proofs.PublishedLemmas.{many-stretch}
-use Rattle.bloom_blocked.specs.Lines.{are_in_line, line_positions}
+use Rattle.bloom_blocked.proofs.Common.{take-length, content, many-stretch, are_in_line, line_positions}
 use Rattle.bloom_blocked.proofs.TellLemmas.{new-part, tells-turn}
 use Rattle.bloom_blocked.proofs.many.telling.insert_hashes_tell_new.Goals as goal
 

@@ -1,6 +1,5 @@
 use Rattle.std.proofs.Common.{take}
-use Rattle.std.specs.Io.KnownBytes.{Appends}
-use Rattle.bloom_engine.specs.Texts.{words_text}
+use Rattle.bloom_engine.proofs.Common.{Appends, words_text}
 use Rattle.bloom_engine.proofs.engine.text.put_words.Given as goal
 
 -- the words so far are written

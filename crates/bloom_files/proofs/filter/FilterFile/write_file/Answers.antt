@@ -1,11 +1,6 @@
 use Rattle.std.proofs.Common.{ℕ, List, subst}
-use Rattle.std.proofs.lemmas.Result.{on_ok_weaker}
+use Rattle.bloom_files.proofs.Common.{on_ok_weaker, Appends, AppendsPart, Head, Layout, WritesParts, sealed_file}
 use Rattle.std.specs.Prelude.{OnErr, OnOk}
-use Rattle.std.specs.Io.KnownBytes.{Appends}
-use Rattle.lines.specs.Writing.{AppendsPart}
-use Rattle.bloom_files.specs.declared.head.Head.{Head}
-use Rattle.bloom_files.specs.declared.layout.Layout.{Layout}
-use Rattle.bloom_files.specs.FileLayouts.{WritesParts, sealed_file}
 use Rattle.bloom_files.proofs.filter.FilterFile.write_file.Goals as goal
 
 pub returns-clause-file : goal.returns-clause-file

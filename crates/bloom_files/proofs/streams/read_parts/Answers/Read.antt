@@ -1,7 +1,6 @@
 -- What `read_parts` has read where it refuses nothing.
 use Rattle.std.proofs.Common.{ap, sym, ◌∙◌}
-use Rattle.bloom_files.specs.declared.head.Head.{Head}
-use Rattle.bloom_files.specs.FileRefusals.{wrong_seal}
+use Rattle.bloom_files.proofs.Common.{Head, wrong_seal}
 use Rattle.bloom_files.proofs.ReadLemmas.{reads-parts}
 use Rattle.bloom_files.proofs.streams.read_parts.Goals as goal
 

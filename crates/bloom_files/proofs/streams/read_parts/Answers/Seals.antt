@@ -1,7 +1,6 @@
 -- What `read_parts` answers where it comes to the seal.
 use Rattle.std.proofs.Common.{◌≡◌, Err, rules, ap, sym, ◌∙◌}
-use Rattle.bloom_files.specs.declared.head.Head.{Head}
-use Rattle.bloom_files.specs.FileRefusals.{wrong_seal}
+use Rattle.bloom_files.proofs.Common.{Head, wrong_seal}
 use Rattle.bloom_files.proofs.ReadLemmas.{reported-seal}
 use Rattle.bloom_files.proofs.streams.read_parts.Goals as goal
 

@@ -1,6 +1,5 @@
 use Rattle.std.proofs.Common.{◌≡◌, ◌<◌, false, map, sym, subst}
-use Rattle.bloom_growing.specs.Growing.{setup_of, any_contains, newest_room, IsSound}
-use Rattle.bloom_growing.specs.Kinds.{InsertsIn}
+use Rattle.bloom_growing.proofs.Common.{setup_of, any_contains, newest_room, IsSound, InsertsIn}
 use Rattle.bloom_growing.proofs.GrowingKeptLemmas.{kept-adds}
 use Rattle.bloom_growing.proofs.growing.GrowingFilterOf.add.Goals as goal
 

@@ -1,9 +1,5 @@
 use Rattle.std.proofs.Common.{◌≡◌, ◌≤◌, ◌+◌, false, [], ◌∷◌, ◌++◌, None, Some, length, map, sym, refl, ◌∙◌, ap, subst}
-use Rattle.std.proofs.lemmas.List.{map-append}
-use Rattle.std.proofs.lemmas.Result.{err_from_is_err_and}
-use Rattle.bloom_growing.specs.Growing.{setup_of, newest_room, IsNumber}
-use Rattle.bloom_growing.specs.GrowingInserts.{BeginsNext, RefusesNumber}
-use Rattle.bloom_growing.specs.Kinds.{contains_in}
+use Rattle.bloom_growing.proofs.Common.{map-append, err_from_is_err_and, setup_of, newest_room, IsNumber, BeginsNext, RefusesNumber, contains_in}
 use Rattle.bloom_growing.proofs.GrowingKeptLemmas.{kept-begins, next-begins, some_room_at}
 use Rattle.bloom_growing.proofs.GrowingLemmas.{made-empty}
 use Rattle.bloom_growing.proofs.GrowingRefusalLemmas.{refuses-memory}

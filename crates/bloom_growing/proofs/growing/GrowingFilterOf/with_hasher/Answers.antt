@@ -1,6 +1,5 @@
 use Rattle.std.proofs.Common.{◌≡◌, ◌≤◌, map, max, refl, ap, arith}
-use Rattle.std.proofs.lemmas.Result.{err_from_is_err_and}
-use Rattle.bloom_growing.specs.Growing.{setup_of}
+use Rattle.bloom_growing.proofs.Common.{err_from_is_err_and, setup_of}
 use Rattle.bloom_growing.proofs.GrowingKeptLemmas.{kept-begun, next-first}
 use Rattle.bloom_growing.proofs.growing.GrowingFilterOf.with_hasher.Goals as goal
 

@@ -1,6 +1,5 @@
 use Rattle.std.proofs.Common.{◌∙◌, arith}
-use Rattle.std.proofs.lemmas.Result.{err_from_is_err_and}
-use Rattle.bloom_growing.specs.Growing.{setup_of}
+use Rattle.bloom_growing.proofs.Common.{err_from_is_err_and, setup_of}
 use Rattle.bloom_growing.proofs.GrowingKeptLemmas.{is_number}
 use Rattle.bloom_growing.proofs.GrowingRefusalLemmas.{refuses-rate, refuses-room, refuses-size, room-of, room-past}
 use Rattle.bloom_growing.proofs.growing.filters.make_next.Goals as goal

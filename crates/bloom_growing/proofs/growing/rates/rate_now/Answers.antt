@@ -1,6 +1,5 @@
 use Rattle.std.proofs.Common.{map, ◌+◌, [], ◌∷◌, ◌++◌, ◌≡◌, take, rules}
-use Rattle.std.proofs.lemmas.List.{map-append}
-use Rattle.bloom_growing.specs.GrowingRates.{part_now}
+use Rattle.bloom_growing.proofs.Common.{map-append, part_now}
 use Rattle.bloom_growing.proofs.GrowingRateLemmas.{bounds-none, bounds-push, some-lookups, take-next}
 use Rattle.bloom_growing.proofs.growing.rates.rate_now.Goals as goal
 

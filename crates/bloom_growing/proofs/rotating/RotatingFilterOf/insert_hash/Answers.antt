@@ -1,6 +1,5 @@
 use Rattle.std.proofs.Common.{◌+◌, false, refl, sym, subst, arith}
-use Rattle.bloom_plain.specs.Filter.{Clears}
-use Rattle.bloom_growing.specs.Kinds.{InsertsIn}
+use Rattle.bloom_growing.proofs.Common.{Clears, InsertsIn}
 use Rattle.bloom_growing.proofs.RotatingLemmas.{rotating-filled, rotating-turned}
 use Rattle.bloom_growing.proofs.rotating.RotatingFilterOf.insert_hash.Goals as goal
 

@@ -1,6 +1,5 @@
 use Rattle.std.proofs.Common.{◌≡◌, ◌≤◌, max, refl, ap, arith}
-use Rattle.std.proofs.lemmas.Result.{err_from_is_err_and}
-use Rattle.bloom_growing.specs.Growing.{setup_of}
+use Rattle.bloom_growing.proofs.Common.{err_from_is_err_and, setup_of}
 use Rattle.bloom_growing.proofs.GrowingKeptLemmas.{next-first}
 use Rattle.bloom_growing.proofs.RotatingLemmas.{rotating-none}
 use Rattle.bloom_growing.proofs.rotating.RotatingFilterOf.with_hasher.Goals as goal

@@ -1,6 +1,5 @@
 use Rattle.std.proofs.Common.{◌≡◌, ◌*◌, ◌/◌, ◌^◌, arith, rules}
-use Rattle.std.specs.Int.{div_ceil}
-use Rattle.bloom_parts.specs.Brackets.{Holds}
+use Rattle.bloom_parts.proofs.Common.{div_ceil, Holds}
 use Rattle.bloom_parts.proofs.RateBoundLemmas.{share-low, share-high, share-apart, width-twice, positives-between}
 use Rattle.bloom_parts.proofs.math.false_pos.false_pos_of_ones.Goals as goal
 

@@ -1,7 +1,5 @@
 use Rattle.std.proofs.Common.{◌≡◌, ◌≤◌, ◌==◌, ◌*◌, length, take}
-use Rattle.std.specs.List.{list_all}
-use Rattle.bloom_parts.specs.Content.{content}
-use Rattle.bloom_parts.specs.Places.{are_in}
+use Rattle.bloom_parts.proofs.Common.{list_all, content, are_in}
 use Rattle.bloom_parts.proofs.slices.many.all_are_set.Given as goal
 
 -- as many hashes were found as looked up exactly if all these are contained

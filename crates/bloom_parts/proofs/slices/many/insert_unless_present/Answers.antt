@@ -1,6 +1,5 @@
 use Rattle.std.proofs.Common.{◌*◌, length, sym, ◌∙◌}
-use Rattle.bloom_parts.specs.Content.{content}
-use Rattle.bloom_parts.specs.Places.{are_in, positions}
+use Rattle.bloom_parts.proofs.Common.{content, are_in, positions}
 use Rattle.bloom_parts.proofs.PlaceLemmas.{part-from}
 use Rattle.bloom_parts.proofs.ManyLemmas.{many-contained}
 use Rattle.bloom_parts.proofs.slices.many.insert_unless_present.Goals as goal

@@ -1,9 +1,8 @@
 use Rattle.std.proofs.Common.{◌≡◌, ◌≢◌, arith, sym, subst, true, false, eqb}
-use Rattle.std.proofs.lemmas.Bool.{ne_eqb, eq-eqb}
+use Rattle.bloom_parts.proofs.Common.{ne_eqb, eq-eqb, TellsNext}
 use Rattle.bloom_parts.proofs.TurnLemmas.{advances-none, advances-then}
 use Rattle.bloom_parts.proofs.LookLemmas.{tells_next-none, tells_next-on, tells_next-stops, tells_next-as}
 use Rattle.bloom_parts.proofs.slices.positions.each_is_on.Goals.{then-places-test+else-next_is_on, else-places-test}
-use Rattle.bloom_parts.specs.Stretches.{TellsNext}
 use Rattle.bloom_parts.proofs.slices.positions.each_is_on.Goals as goal
 
 pub places-init : goal.places-init

@@ -1,6 +1,5 @@
 use Rattle.std.proofs.Common.{◌≤◌, length, map, take, vec_len, vec_capacity}
-use Rattle.bloom_plain.specs.CommandOf.{operation_of}
-use Rattle.bloom_plain.specs.Replies.{CarriesOut}
+use Rattle.bloom_plain.proofs.Common.{operation_of, CarriesOut}
 use Rattle.bloom_plain.proofs.bloom.BloomFilter.replay.Given as goal
 
 -- the commands so far were carried out, and there is room for a reply to each of the others

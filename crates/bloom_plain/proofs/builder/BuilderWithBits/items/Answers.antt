@@ -1,7 +1,5 @@
 use Rattle.std.proofs.Common.{◌≡◌, subst}
-use Rattle.bloom_plain.specs.Builders.{sized_filter}
-use Rattle.bloom_plain.specs.Replies.{InsertsItems}
-use Rattle.bloom_plain.specs.SourceHash.{lent_hash_of}
+use Rattle.bloom_plain.proofs.Common.{sized_filter, InsertsItems, lent_hash_of}
 use Rattle.bloom_plain.proofs.BuilderLemmas.{inserts_all-same}
 use Rattle.bloom_plain.proofs.builder.BuilderWithBits.items.Goals as goal
 

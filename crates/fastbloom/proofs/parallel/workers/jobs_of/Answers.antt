@@ -1,6 +1,5 @@
 use Rattle.std.proofs.Common.{◌≡◌, refl}
-use Rattle.std.proofs.lemmas.List.{map-append}
-use Rattle.std.proofs.lemmas.List.Elements.{All-push}
+use Rattle.fastbloom.proofs.Common.{map-append, All-push}
 use Rattle.fastbloom.proofs.parallel.workers.jobs_of.Goals as goal
 
 -- one job more

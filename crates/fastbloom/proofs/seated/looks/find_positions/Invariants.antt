@@ -1,7 +1,5 @@
 use Rattle.std.proofs.Common.{◌≡◌, ◌*◌}
-use Rattle.bloom_parts.specs.Chain.{IsAt}
-use Rattle.fastbloom.specs.Passes.{Looks, GrowsBeside, sight_of}
-use Rattle.fastbloom.specs.declared.seated.rule.Role.TheVariants.{Pass}
+use Rattle.fastbloom.proofs.Common.{IsAt, Looks, GrowsBeside, sight_of, Pass}
 use Rattle.fastbloom.proofs.seated.looks.find_positions.Given as goal
 
 -- the places so far were found set

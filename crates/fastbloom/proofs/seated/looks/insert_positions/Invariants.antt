@@ -1,8 +1,5 @@
 use Rattle.std.proofs.Common.{◌≡◌, ◌*◌}
-use Rattle.bloom_parts.specs.Chain.{IsAt}
-use Rattle.bloom_parts.specs.Places.{positions}
-use Rattle.fastbloom.specs.Passes.{InsertsAs, sight_of}
-use Rattle.fastbloom.specs.declared.seated.rule.Role.TheVariants.{Pass}
+use Rattle.fastbloom.proofs.Common.{IsAt, positions, InsertsAs, sight_of, Pass}
 use Rattle.fastbloom.proofs.seated.looks.insert_positions.Given as goal
 
 -- the places so far were set

@@ -1,7 +1,5 @@
 use Rattle.std.proofs.Common.{◌≡◌}
-use Rattle.fastbloom.specs.Loads.{Views}
-use Rattle.fastbloom.specs.Passes.{sight_of}
-use Rattle.fastbloom.specs.declared.seated.rule.Role.TheVariants.{Pass}
+use Rattle.fastbloom.proofs.Common.{Views, sight_of, Pass}
 use Rattle.fastbloom.proofs.seated.meetings.view_words.Given as goal
 
 -- the words so far were looked at

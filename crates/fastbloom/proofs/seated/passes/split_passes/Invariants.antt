@@ -1,6 +1,5 @@
 use Rattle.std.proofs.Common.{◌≡◌, ◌+◌, ◌≤◌, All, vec_len, vec_capacity}
-use Rattle.fastbloom.specs.Plays.{IsFresh}
-use Rattle.fastbloom.specs.Passes.{IsNewPass}
+use Rattle.fastbloom.proofs.Common.{IsFresh, IsNewPass}
 use Rattle.fastbloom.proofs.seated.passes.split_passes.Given as goal
 
 -- the seat stands for the passes that are still to come, itself among them

@@ -3,10 +3,7 @@ use Rattle.std.proofs.Math.Seq.{take-append_seam}
 use Rattle.std.proofs.lemmas.Grind.{div_ceil_times}
 use Rattle.std.specs.Fork.{slice_chunk}
 use Rattle.std.specs.Int.{div_ceil}
-use Rattle.std.specs.Prelude.{slice_index_or}
-use Rattle.fastbloom.specs.Data.{DefaultFilter}
-use Rattle.fastbloom.specs.Replies.{InsertsAll}
-use Rattle.summaries_engine.specs.Crews.{InsertParts}
+use Rattle.summaries_engine.proofs.Common.{slice_index_or, DefaultFilter, InsertsAll, InsertParts}
 use Rattle.summaries_engine.proofs.CrewLemmas.{parts-each}
 use Rattle.summaries_engine.proofs.crew.Crew.insert.Goals as goal
 

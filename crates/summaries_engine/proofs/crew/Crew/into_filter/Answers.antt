@@ -1,6 +1,5 @@
 use Rattle.std.proofs.Common.{◌∷◌, arith, subst}
-use Rattle.std.proofs.lemmas.List.{nil_from_length}
-use Rattle.summaries_engine.specs.Crews.{HoldTogether}
+use Rattle.summaries_engine.proofs.Common.{nil_from_length, HoldTogether}
 use Rattle.summaries_engine.proofs.CrewLemmas.{hold-same, hold-united}
 use Rattle.summaries_engine.proofs.crew.Crew.into_filter.Goals as goal
 

@@ -1,6 +1,5 @@
 use Rattle.std.proofs.Common.{ℕ, List, ◌∷◌}
-use Rattle.fastbloom.specs.Data.{DefaultFilter}
-use Rattle.summaries_engine.specs.Crews.{HoldTogether}
+use Rattle.summaries_engine.proofs.Common.{DefaultFilter, HoldTogether}
 use Rattle.summaries_engine.proofs.crew.Crew.into_filter.Given as goal
 
 -- the whole and those that are left hold what all held

@@ -1,7 +1,6 @@
 use Rattle.std.proofs.Common.{◌≡◌, ◌++◌, [], ◌∷◌, arith, refl, subst, sym}
 use Rattle.std.proofs.lemmas.List.{length-append}
-use Rattle.std.proofs.lemmas.List.Elements.{All-append, All-cons}
-use Rattle.summaries_engine.specs.Crews.{HoldTogether}
+use Rattle.summaries_engine.proofs.Common.{All-append, All-cons, HoldTogether}
 use Rattle.summaries_engine.proofs.CrewLemmas.{copies-hold}
 use Rattle.summaries_engine.proofs.crew.Crew.new.Goals as goal
 

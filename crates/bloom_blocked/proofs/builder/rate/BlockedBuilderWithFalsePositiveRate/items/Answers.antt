@@ -1,8 +1,6 @@
 use Rattle.std.proofs.Common.{refl, subst}
-use Rattle.bloom_blocked.specs.BlockedSizing.{IsMadeInLinesFor}
-use Rattle.bloom_blocked.specs.Blocked.{InsertsItemsInLines}
+use Rattle.bloom_blocked.proofs.Common.{IsMadeInLinesFor, InsertsItemsInLines, inserts_all-same}
 use Rattle.bloom_plain.specs.SourceHash.{lent_hash_of}
-use Rattle.bloom_plain.proofs.BuilderLemmas.{inserts_all-same}
 use Rattle.bloom_blocked.proofs.builder.rate.BlockedBuilderWithFalsePositiveRate.items.Goals as goal
 
 pub returns-clause-content : goal.returns-clause-content

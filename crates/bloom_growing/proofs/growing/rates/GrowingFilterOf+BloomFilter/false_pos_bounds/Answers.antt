@@ -1,7 +1,5 @@
 use Rattle.std.proofs.Common.{◌+◌, ◌*◌, [], ◌∷◌, ◌++◌, length, subst, sym, ap, arith}
-use Rattle.std.proofs.lemmas.List.{map-id}
-use Rattle.bloom_growing.specs.Growing.{room_at}
-use Rattle.bloom_growing.specs.GrowingRates.{BoundsAny, part_after, parts_full, parts_grown}
+use Rattle.bloom_growing.proofs.Common.{map-id, room_at, BoundsAny, part_after, parts_full, parts_grown}
 use Rattle.bloom_growing.proofs.GrowingRateLemmas.{bounds-push, some-lookups}
 use Rattle.bloom_growing.proofs.growing.rates.GrowingFilterOf+BloomFilter.false_pos_bounds.Goals as goal
 

@@ -1,6 +1,5 @@
 use Rattle.std.proofs.Common.{[], ◌∷◌, ◌++◌, map, sym, subst}
-use Rattle.std.proofs.lemmas.List.{map-append, map-id}
-use Rattle.bloom_growing.specs.GrowingRates.{BoundsAny, part_now, parts_now}
+use Rattle.bloom_growing.proofs.Common.{map-append, map-id, BoundsAny, part_now, parts_now}
 use Rattle.bloom_growing.proofs.GrowingRateLemmas.{bounds-push, some-lookups}
 use Rattle.bloom_growing.proofs.growing.rates.GrowingFilterOf+BloomFilter.false_pos_now.Goals as goal
 

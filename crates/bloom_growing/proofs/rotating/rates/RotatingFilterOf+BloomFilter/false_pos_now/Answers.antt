@@ -1,6 +1,5 @@
 use Rattle.std.proofs.Common.{subst, rules}
-use Rattle.bloom_growing.specs.GrowingRates.{BoundsAny, part_now}
-use Rattle.bloom_growing.specs.Rotating.{both_now}
+use Rattle.bloom_growing.proofs.Common.{BoundsAny, part_now, both_now}
 use Rattle.bloom_growing.proofs.GrowingRateLemmas.{some-lookups}
 use Rattle.bloom_growing.proofs.RotatingLemmas.{bounds-two}
 use Rattle.bloom_growing.proofs.rotating.rates.RotatingFilterOf+BloomFilter.false_pos_now.Goals as goal

@@ -1,10 +1,5 @@
 use Rattle.std.proofs.Common.{fold, arith, ap, refl, ◌∙◌, take_all}
-use Rattle.std.specs.Prelude.{map}
-use Rattle.std.specs.List.{concat}
-use Rattle.std.specs.Int.{w64, from_le_bytes}
-use Rattle.bloom_parts.specs.Hashed.{write}
-use Rattle.bloom_parts.specs.Sip.{absorb}
-use Rattle.bloom_parts.specs.contracts.hasher.sip.RandomDefaultHasher.{the_view}
+use Rattle.bloom_parts.proofs.Common.{map, concat, w64, from_le_bytes, write, absorb, the_view}
 use Rattle.bloom_parts.proofs.WriteLemmas.{pushed-words}
 use Rattle.bloom_parts.proofs.hasher.sip.RandomDefaultHasher.push_words.Goals as goal
 

@@ -1,7 +1,5 @@
 use Rattle.std.proofs.Common.{◌≡◌, take, fold}
-use Rattle.std.specs.Prelude.{map}
-use Rattle.std.specs.Int.{w64, from_le_bytes}
-use Rattle.bloom_parts.specs.Sip.{absorb}
+use Rattle.bloom_parts.proofs.Common.{map, w64, from_le_bytes, absorb}
 use Rattle.bloom_parts.specs.States.{state_words}
 use Rattle.bloom_parts.proofs.hasher.sip.RandomDefaultHasher.push_words.Given as goal
 

@@ -1,7 +1,5 @@
 use Rattle.std.proofs.Common.{refl, subst}
-use Rattle.bloom_plain.specs.Builders.{IsMadeFor}
-use Rattle.bloom_plain.specs.Replies.{InsertsItems}
-use Rattle.bloom_plain.specs.SourceHash.{lent_hash_of}
+use Rattle.bloom_plain.proofs.Common.{IsMadeFor, InsertsItems, lent_hash_of}
 use Rattle.bloom_plain.proofs.BuilderLemmas.{inserts_all-same}
 use Rattle.bloom_plain.proofs.builder.rate.BuilderWithFalsePositiveRate.items.Goals as goal
 

@@ -1,6 +1,5 @@
-use Rattle.bloom_plain.specs.Builders.{sized_filter}
+use Rattle.fastbloom.proofs.Common.{sized_filter, HasFormOf}
 use Rattle.bloom_plain.specs.SourceHash.{lent_hash_of}
-use Rattle.bloom_plain.specs.SharedFilters.{HasFormOf}
 use Rattle.fastbloom.proofs.InsertedLemmas.{made_inserts-same}
 use Rattle.fastbloom.proofs.builder.atomic_bits.AtomicBuilderWithBits.items.Goals as goal
 

@@ -1,7 +1,6 @@
 use Rattle.std.proofs.Common.{◌≡◌, ◌*◌, ◌∙◌, replicate, ap, arith}
 use Rattle.std.proofs.lemmas.Grind.{common_steps}
-use Rattle.bloom_plain.specs.Builders.{words_for}
-use Rattle.fastbloom.specs.Fill.{words_of}
+use Rattle.fastbloom.proofs.Common.{words_for, words_of}
 use Rattle.fastbloom.proofs.FillLemmas.{filled-none}
 use Rattle.fastbloom.proofs.parallel.shape.Shape.empty_filter.Goals as goal
 

@@ -1,7 +1,5 @@
 use Rattle.std.proofs.Common.{[], ◌∷◌, ◌∙◌, ap}
-use Rattle.std.specs.List.{concat}
-use Rattle.std.specs.Int.{w64, to_le_bytes}
-use Rattle.bloom_parts.specs.Hashed.{write}
+use Rattle.bloom_parts.proofs.Common.{concat, w64, to_le_bytes, write}
 use Rattle.bloom_parts.proofs.HashedLemmas.{takes}
 use Rattle.bloom_parts.proofs.hasher.sip.writes.RandomDefaultHasherHasher.write_u64.Goals as goal
 

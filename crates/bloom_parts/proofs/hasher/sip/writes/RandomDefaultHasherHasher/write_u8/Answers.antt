@@ -1,7 +1,6 @@
 use Rattle.std.proofs.Common.{[], ◌∷◌, refl, sym, arith, ap, ◌∙◌, mod-eq_of_lt}
 use Rattle.std.specs.Int.{w8, to_le_bytes}
-use Rattle.bloom_parts.specs.Hashed.{write}
-use Rattle.bloom_parts.specs.contracts.hasher.sip.RandomDefaultHasher.{the_view}
+use Rattle.bloom_parts.proofs.Common.{write, the_view}
 use Rattle.bloom_parts.proofs.HashedLemmas.{takes}
 use Rattle.bloom_parts.proofs.WriteLemmas.{size-held}
 use Rattle.bloom_parts.proofs.hasher.sip.writes.RandomDefaultHasherHasher.write_u8.Goals as goal
