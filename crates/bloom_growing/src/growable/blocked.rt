@@ -1,14 +1,11 @@
 //! Blocked filters of which others consist.
 use super::GrowableFilter;
-use bloom_blocked::BlockedBloomFilter;
+use bloom_blocked::{BlockedBloomFilter, many};
 use bloom_parts::error::FilterError;
 use bloom_parts::hasher::DefaultHasher;
 use bloom_parts::laws::content_of_words;
 use bloom_parts::math::Rate;
 use std::alloc::Global;
-
-// From this many words on, which are one mebibyte, hashes are looked up ahead.
-const WORDS_TO_LOOK_AHEAD: usize = 1 << 17;
 
 impl GrowableFilter for BlockedBloomFilter {
     ghost use Rattle.bloom_growing.specs.Kinds.{Blocked};
@@ -42,11 +39,12 @@ impl GrowableFilter for BlockedBloomFilter {
     }
 
     fn looks_ahead(&self) -> bool {
-        self.as_slice().len() >= WORDS_TO_LOOK_AHEAD
+        self.as_slice().len() >= many::WORDS_TO_READ_AHEAD
     }
 
     fn look_up(&self, hashes: &[u64], found: &mut [u64; 1]) {
-        self.contains_hashes(hashes, found);
+        // (one position brings the line that has all of them)
+        many::contains_hashes(self.as_slice(), 1, hashes, found);
     }
 
     fn clear(&mut self) {
