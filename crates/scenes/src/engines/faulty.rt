@@ -54,6 +54,8 @@ pub(crate) struct Seen {
     pub(crate) ends: Cell<usize>,
     /// How many reads and opens came while what was written waited for a flush.
     pub(crate) early: Cell<usize>,
+    /// How many reads came behind an end.
+    pub(crate) late: Cell<usize>,
 }
 
 impl Seen {
@@ -62,6 +64,7 @@ impl Seen {
             waiting: Cell::new(0),
             ends: Cell::new(0),
             early: Cell::new(0),
+            late: Cell::new(0),
         }
     }
 
@@ -82,6 +85,7 @@ pub(crate) struct Source<'a> {
     rest: &'a [u8],
     reading: Reading,
     interrupted: u8,
+    is_ended: bool,
     seen: &'a Seen,
 }
 
@@ -91,6 +95,7 @@ impl<'a> Source<'a> {
             rest,
             reading,
             interrupted: 0,
+            is_ended: false,
             seen,
         }
     }
@@ -101,6 +106,7 @@ impl<'a> Source<'a> {
             return Err(kind.into());
         }
         self.rest = LATER;
+        self.is_ended = true;
         Ok(())
     }
 }
@@ -108,6 +114,9 @@ impl<'a> Source<'a> {
 impl<'a> Read for Source<'a> {
     fn read(&mut self, buf: &mut [u8]) -> io::Result<usize> {
         self.seen.note_read();
+        if self.is_ended {
+            self.seen.late.set(self.seen.late.get().saturating_add(1));
+        }
         self.interrupted = self.interrupted.wrapping_add(1) % 6;
         if self.reading.interrupts && self.interrupted > 0 {
             return Err(ErrorKind::Interrupted.into());
