@@ -3,12 +3,14 @@
  * each refusal on standard error. Requests count that come from between the two addresses in
  * ALLOCATOR, which begin with the program, so that those of C code, as for a thread's start, are
  * left alone. With WATCHED=32792 each thread that lets others run tells whether all that was given
- * in pieces of so many bytes is zero then. */
+ * in pieces of so many bytes is zero then. With TOLD=1 it tells each request, and all memory that is
+ * given back: the address of what is replaced, the bytes asked for, and where they were given. */
 #define _GNU_SOURCE
 #include <dlfcn.h>
 #include <errno.h>
 #include <pthread.h>
 #include <stdatomic.h>
+#include <stdio.h>
 #include <stdlib.h>
 #include <sys/auxv.h>
 #include <unistd.h>
@@ -17,6 +19,7 @@ enum { MOST_WATCHED = 8 };
 
 extern void *__libc_malloc(size_t size);
 extern void *__libc_realloc(void *old, size_t size);
+extern void __libc_free(void *old);
 
 /* Whether an address lies between the two that a text has. */
 static int is_between(const char *text, const char *address) {
@@ -42,6 +45,13 @@ static int is_refused(const void *caller) {
     return tell(ENOMEM);
 }
 
+static void tell_request(const void *caller, const void *old, size_t size, const void *given) {
+    char line[80];
+    if (!getenv("TOLD") || (caller && !is_between(getenv("ALLOCATOR"), caller))) return;
+    int length = snprintf(line, sizeof line, "request %p %zu %p\n", old, size, given);
+    (void)!write(STDERR_FILENO, line, (size_t)length);
+}
+
 static size_t watched_size(void) {
     const char *size = getenv("WATCHED");
     return size ? strtoul(size, NULL, 10) : 0;
@@ -53,6 +63,7 @@ static atomic_uint num_watched;
 void *malloc(size_t size) {
     if (is_refused(__builtin_return_address(0))) return NULL;
     void *given = __libc_malloc(size);
+    tell_request(__builtin_return_address(0), NULL, size, given);
     if (size > 0 && size == watched_size()) {
         unsigned number = atomic_fetch_add(&num_watched, 1);
         if (number < MOST_WATCHED) watched[number] = given;
@@ -70,7 +81,15 @@ int sched_yield(void) {
 }
 
 void *realloc(void *old, size_t size) {
-    return is_refused(__builtin_return_address(0)) ? NULL : __libc_realloc(old, size);
+    if (is_refused(__builtin_return_address(0))) return NULL;
+    void *given = __libc_realloc(old, size);
+    tell_request(__builtin_return_address(0), old, size, given);
+    return given;
+}
+
+void free(void *old) {
+    tell_request(NULL, old, 0, NULL);
+    __libc_free(old);
 }
 
 int pthread_create(pthread_t *thread, const pthread_attr_t *how, void *(*begin)(void *),

@@ -85,6 +85,7 @@ fn is_left_in_lines(alloc: Global, row: &Row) -> Result<bool, FilterError> {
 const ROWS: &'static [Row] = &[
     (512, 1, 1),
     (512, 100, 100),
+    ((1 << 25) - 64, 100, 100),
     (1 << 25, 40, 32),
     (1 << 25, 199, 192),
 ];
@@ -93,6 +94,7 @@ const ROWS: &'static [Row] = &[
 const IN_LINES: &'static [Row] = &[
     (512, 1, 1),
     (512, 100, 100),
+    ((1 << 23) - 512, 100, 100),
     (1 << 23, 100, 64),
     (1 << 23, 199, 192),
 ];

@@ -171,52 +171,45 @@ fn parts_fill_a_filter_however_they_are_cut(rt: HostRuntime) {
     }
 }
 
-// Two hundred parts of five hundred hashes each.
-fn two_hundred(alloc: Global) -> Result<Vec<Vec<u64>>, FilterError> {
+/// How many parts there are, how many hashes each has, and the bits of the filter.
+pub(crate) type Many = (u64, u64, usize);
+
+const MANY: &'static [Many] = &[(200, 500, 1 << 20), (1000, 5, 1 << 14)];
+
+/// The parts.
+pub(crate) fn many_parts(alloc: Global, row: &Many) -> Result<Vec<Vec<u64>>, FilterError> {
+    let (count, each, _bits) = *row;
     let mut parts = Vec::new(alloc);
-    for part in 0..200u64 {
-        parts.push(spread_from(alloc, part * 500, part * 500 + 500)?)?;
+    for part in 0..count {
+        let first = part.saturating_mul(each);
+        parts.push(spread_from(alloc, first, first.saturating_add(each))?)?;
     }
     Ok(parts)
 }
 
-// The filter that one thread makes of them.
-fn made_alone(alloc: Global) -> Result<BloomFilter, FilterError> {
-    let mut filter = BloomFilter::with_num_bits(alloc, 1 << 20)?.hashes(7);
-    for i in 0..100_000u64 {
+// Whether a filter is the one that a single thread makes of them.
+fn is_made_alone(alloc: Global, row: &Many, filled: &BloomFilter) -> Result<bool, FilterError> {
+    let (count, each, bits) = *row;
+    let mut filter = BloomFilter::with_num_bits(alloc, bits)?.hashes(7);
+    for i in 0..count.saturating_mul(each) {
         filter.insert_hash(spread(i));
     }
-    Ok(filter)
+    Ok(filter == *filled)
 }
 
-// Whether a filter is that one.
-fn is_made_alone(alloc: Global, filled: &BloomFilter) -> bool {
-    match made_alone(alloc) {
-        Ok(filter) => filter == *filled,
-        Err(_refusal) => false,
-    }
-}
-
-// The filter that two hundred workers make, and whether each passed the gate.
-fn filter_of_two_hundred<R: Threads>(
-    rt: &R,
-    alloc: Global,
-) -> Result<(BloomFilter, bool), FilterError> {
-    let shape = Shape::new(1 << 20, 7)?;
-    filled(rt, alloc, shape, two_hundred(alloc)?)
-}
-
-// Whether two hundred workers make the filter of one thread.
-fn is_made_alike<R: Threads>(rt: &R, alloc: Global) -> bool {
-    match filter_of_two_hundred(rt, alloc) {
-        Ok((filter, is_seen)) => is_seen & is_made_alone(alloc, &filter),
-        Err(_refusal) => false,
-    }
+// Whether so many workers make that filter, and each passes the gate.
+fn is_made_alike<R: Threads>(rt: &R, alloc: Global, row: &Many) -> Result<bool, FilterError> {
+    let shape = Shape::new(row.2, 7)?;
+    let (filter, is_seen) = filled(rt, alloc, shape, many_parts(alloc, row)?)?;
+    Ok(is_seen & is_made_alone(alloc, row, &filter)?)
 }
 
 #[test]
-fn two_hundred_workers_make_the_filter_of_one_thread(rt: HostRuntime) {
-    assert!(rt; is_made_alike(&rt, rt.alloc()));
+fn many_workers_make_the_filter_of_one_thread(rt: HostRuntime) {
+    for (i, row) in MANY.iter().enumerate() {
+        let is_right = matches!(is_made_alike(&rt, rt.alloc(), row), Ok(true));
+        assert!(rt; tell_row(&rt, i, is_right));
+    }
 }
 
 // A gate at which each worker lets other threads run. There dev/starve looks at the words of the

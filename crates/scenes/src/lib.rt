@@ -15,7 +15,8 @@
 //!   files.
 //! - `between`: an iterator that clears the filter into which its items go.
 //! - `threads`: threads that share a filter.
-//! - `room`: requests for memory refused, one or all, by `dev/starve`.
+//! - `room`: requests for memory refused, one or all, by `dev/starve`; `counted`: the bytes of all
+//!   requests, by the same.
 //! - `long`: lines of which each byte comes and goes alone.
 //! - `engines`: the programs' engines over readers, writers and sieves that fail or are odd.
 //! - `texts`: the texts of all errors.
@@ -43,6 +44,8 @@ mod between;
 mod blocked;
 #[cfg(test)]
 mod concrete;
+#[cfg(test)]
+mod counted;
 #[cfg(test)]
 mod drawn;
 #[cfg(test)]

@@ -1,20 +1,23 @@
-//! What calls on files and texts, and `serve`, ask of their readers and writers: each read by its
-//! room, each write by its length, and each flush of what waits, in order. Nothing else is asked.
+//! What calls on files, and the programs' engines, ask of their readers and writers: each open,
+//! each read by its room, each write by its length, and each flush of what waits, in order. Nothing
+//! else is asked.
+mod programs;
 mod rows;
 
 use crate::row_reports::tell_row;
-use bloom_engine::serve;
 use fastbloom::{BlockedBloomFilter, BloomFilter, FileError, FilterError, FilterFile};
-use rows::{FILES, File, SERVED, Served, TEXT};
+use rows::{FILES, File, TEXT};
 use std::alloc::Global;
 use std::cell::Cell;
 use std::io;
 use std::io::{Read, Write};
-use summaries_engine::put;
+use summaries_engine::{load, put};
 
 /// What a reader or a writer is asked.
 #[derive(Clone, Copy, PartialEq, Eq)]
 pub(crate) enum Asked {
+    /// The next input.
+    Open,
     /// A read with room for so many bytes.
     Read(usize),
     /// A write of so many bytes.
@@ -107,7 +110,10 @@ fn is_kept<F: FilterFile>(alloc: Global, filter: &F, row: &File) -> Result<bool,
     };
     let notes = Notes::new(read);
     drop(F::read_file(alloc, &mut notes.desk(file.as_slice(), piece))?);
-    Ok(is_written & notes.are_right())
+    let is_read = notes.are_right();
+    let notes = Notes::new(read);
+    let is_loaded = load(alloc, "file", 2, &mut notes.desk(file.as_slice(), piece)).is_ok();
+    Ok(is_written & is_read & is_loaded & notes.are_right())
 }
 
 // The same of a Bloom filter and of a blocked one with as many words.
@@ -139,21 +145,4 @@ fn is_text(alloc: Global) -> Result<bool, FilterError> {
 #[test]
 fn a_text_is_written_at_once(rt: HostRuntime) {
     assert!(rt; matches!(is_text(rt.alloc()), Ok(true)));
-}
-
-// Whether lines are served as their row says.
-fn is_served(alloc: Global, row: &Served) -> Result<bool, FilterError> {
-    let (input, piece, wanted) = *row;
-    let mut filter = BloomFilter::with_num_bits(alloc, 64)?.hashes(3);
-    let notes = Notes::new(wanted);
-    let mut reader = notes.desk(input.as_bytes(), piece);
-    let ended = serve(alloc, &mut filter, &mut reader, &mut notes.desk(&[], 0));
-    Ok(ended.is_ok() & notes.are_right())
-}
-
-#[test]
-fn replies_are_flushed_before_a_read_that_may_wait(rt: HostRuntime) {
-    for (i, row) in SERVED.iter().enumerate() {
-        assert!(rt; tell_row(&rt, i, matches!(is_served(rt.alloc(), row), Ok(true))));
-    }
 }

@@ -1,5 +1,5 @@
 //! `keep_new` over odd readers, writers and sieves.
-mod odd;
+pub(super) mod odd;
 mod rows;
 
 use super::faulty::{KINDS, Reading, SLOW, Seen, Sink};

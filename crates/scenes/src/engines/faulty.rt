@@ -57,6 +57,8 @@ pub(crate) struct Seen {
     pub(crate) ends: Cell<usize>,
     /// How many reads and opens came while what was written waited for a flush.
     pub(crate) early: Cell<usize>,
+    /// How many reads came behind an end.
+    pub(crate) late: Cell<usize>,
 }
 
 impl Seen {
@@ -65,6 +67,7 @@ impl Seen {
             waiting: Cell::new(0),
             ends: Cell::new(0),
             early: Cell::new(0),
+            late: Cell::new(0),
         }
     }
 
@@ -85,6 +88,7 @@ pub(crate) struct Source<'a> {
     rest: &'a [u8],
     reading: Reading,
     interrupted: u8,
+    is_ended: bool,
     seen: &'a Seen,
 }
 
@@ -94,6 +98,7 @@ impl<'a> Source<'a> {
             rest,
             reading,
             interrupted: 0,
+            is_ended: false,
             seen,
         }
     }
@@ -104,6 +109,7 @@ impl<'a> Source<'a> {
             return Err(kind.into());
         }
         self.rest = LATER;
+        self.is_ended = true;
         Ok(())
     }
 }
@@ -111,6 +117,9 @@ impl<'a> Source<'a> {
 impl<'a> Read for Source<'a> {
     fn read(&mut self, buf: &mut [u8]) -> io::Result<usize> {
         self.seen.note_read();
+        if self.is_ended {
+            self.seen.late.set(self.seen.late.get().saturating_add(1));
+        }
         self.interrupted = self.interrupted.wrapping_add(1) % 6;
         if self.reading.interrupts && self.interrupted > 0 {
             return Err(ErrorKind::Interrupted.into());

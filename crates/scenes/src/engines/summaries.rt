@@ -1,4 +1,5 @@
 //! Filters of keys over odd readers and writers.
+mod crews;
 mod odd;
 mod rows;
 mod texts;
@@ -114,7 +115,8 @@ fn is_reported(alloc: Global, ended: Result<(), Stop>, text: &str) -> bool {
 }
 
 // Whether an act over the first bytes of its input writes and tells what its row says. What was
-// written is flushed before each read and open, and at the end where the act ends well.
+// written is flushed before each read and open, and at the end where the act ends well. Then no
+// input was read behind its end.
 fn is_right<R: Threads + Sync + AllocGlobal>(
     rt: &R,
     row: &Row,
@@ -132,9 +134,10 @@ fn is_right<R: Threads + Sync + AllocGlobal>(
     };
     let mut sink = Sink::new(rt.alloc(), row.3, &seen);
     let ended = carry_out(rt, row.0, &odd, filter, &mut sink);
-    let is_flushed = ended.is_err() | (seen.waiting.get() == 0);
+    let is_whole = (seen.waiting.get() == 0) & (seen.late.get() == 0);
+    let is_done = ended.is_err() | is_whole;
     let is_told = is_reported(rt.alloc(), ended, text);
-    is_told & sink.has(row.4) & is_flushed & (seen.early.get() == 0)
+    is_told & sink.has(row.4) & is_done & (seen.early.get() == 0)
 }
 
 // The same for each beginning of its input behind which a read may fail: any, or the whole, where

@@ -1,6 +1,6 @@
 //! What is asked of readers and writers, by tables.
 use super::Asked;
-use super::Asked::{Flush, Read, Write};
+use super::Asked::{Flush, Open, Read, Write};
 
 /// A number of words, and the most bytes of a read; what is asked where a file of them is written,
 /// and where it is read.
@@ -44,49 +44,159 @@ pub(super) const FILES: &'static [File] = &[
 /// What is asked where the text of a filter is written.
 pub(super) const TEXT: &'static [Asked] = &[Write(60), Write(1), Flush];
 
-/// Lines, and the most bytes of a read; what is asked where they are served.
-pub(super) type Served = (&'static str, usize, &'static [Asked]);
+// A read of lines.
+const BLOCK: Asked = Read(65536);
 
-/// The replies are `false`, `true` and a word of 16 digits, each with the end of its line.
-pub(super) const SERVED: &'static [Served] = &[
+/// What runs over one input.
+#[derive(Clone, Copy)]
+pub(super) enum Engine {
+    /// `serve`, over a word and three hashes.
+    Serve,
+    /// `keep_new`, which passes on lines of more than two bytes.
+    Keep,
+    /// `build`, by two workers.
+    Build,
+    /// `ask`, for the keys that an empty filter lacks: all.
+    Ask,
+}
+
+/// What runs, its input, and the most bytes of a read; what is asked.
+pub(super) type Row = (Engine, &'static str, usize, &'static [Asked]);
+
+/// A reply of `serve` is `false` or `true`, and a word has 16 digits, each with its line's end. The
+/// others write a line and then its end.
+pub(super) const ROWS: &'static [Row] = &[
     (
+        Engine::Serve,
         "i 1\nc 1\nw\n",
         usize::MAX,
-        &[
-            Read(65536),
-            Write(6),
-            Write(5),
-            Write(17),
-            Flush,
-            Read(65536),
-        ],
+        &[BLOCK, Write(6), Write(5), Write(17), Flush, BLOCK],
     ),
     (
+        Engine::Serve,
         "i 1\nc 1\nw\n",
         4,
         &[
-            Read(65536),
+            BLOCK,
             Write(6),
             Flush,
-            Read(65536),
+            BLOCK,
             Write(5),
             Flush,
-            Read(65536),
+            BLOCK,
             Write(17),
             Flush,
-            Read(65536),
+            BLOCK,
         ],
     ),
     (
+        Engine::Serve,
         "i 1\nc 1",
         6,
+        &[BLOCK, Write(6), Flush, BLOCK, BLOCK, Write(5), Flush],
+    ),
+    (
+        Engine::Serve,
+        "w\nc 1\nw\n",
+        6,
         &[
-            Read(65536),
+            BLOCK,
+            Write(17),
             Write(6),
             Flush,
-            Read(65536),
-            Read(65536),
-            Write(5),
+            BLOCK,
+            Write(17),
+            Flush,
+            BLOCK,
+        ],
+    ),
+    (
+        Engine::Keep,
+        "ab\nab\nc\n",
+        usize::MAX,
+        &[
+            Open,
+            BLOCK,
+            Write(2),
+            Write(1),
+            Write(1),
+            Write(1),
+            Flush,
+            BLOCK,
+            Open,
+        ],
+    ),
+    (
+        Engine::Keep,
+        "ab\nc",
+        3,
+        &[
+            Open,
+            BLOCK,
+            Write(2),
+            Write(1),
+            Flush,
+            BLOCK,
+            BLOCK,
+            Write(1),
+            Write(1),
+            Flush,
+            Open,
+        ],
+    ),
+    (
+        Engine::Keep,
+        "abc\nabc\nd\n",
+        4,
+        &[
+            Open,
+            BLOCK,
+            Write(3),
+            Write(1),
+            Flush,
+            BLOCK,
+            Write(3),
+            Write(1),
+            Flush,
+            BLOCK,
+            Write(1),
+            Write(1),
+            Flush,
+            BLOCK,
+            Open,
+        ],
+    ),
+    (Engine::Build, "ab\nc\n", usize::MAX, &[Open, BLOCK, BLOCK]),
+    (Engine::Build, "ab\nc", 3, &[Open, BLOCK, BLOCK, BLOCK]),
+    (
+        Engine::Ask,
+        "ab\nc\n",
+        usize::MAX,
+        &[
+            Open,
+            BLOCK,
+            Write(2),
+            Write(1),
+            Write(1),
+            Write(1),
+            Flush,
+            BLOCK,
+        ],
+    ),
+    (
+        Engine::Ask,
+        "ab\nc",
+        3,
+        &[
+            Open,
+            BLOCK,
+            Write(2),
+            Write(1),
+            Flush,
+            BLOCK,
+            BLOCK,
+            Write(1),
+            Write(1),
             Flush,
         ],
     ),
