@@ -1,7 +1,7 @@
 -- Lists of commands, at values from outside: for each definition that public clauses cite a case
 -- that holds and cases as near as can be that don't. With one hash, hash 0 has position 0.
 use Rattle.std.proofs.Common.{◌≡◌, ℕ, true, false, List, [], ◌∷◌, map, Bor, refl, arith, lit<}
-use Rattle.bloom_plain.proofs.Common.{chain, content, Operation, state_after, positions, are_in, Filter, CarriesOut}
+use Rattle.bloom_plain.proofs.Common.{chain, content, state_after, positions, are_in, Filter, CarriesOut}
 use Rattle.bloom_parts.specs.Operations as operation
 use Rattle.bloom_plain.specs.CommandOf.{operation_of, Fits}
 use Rattle.bloom_plain.specs.declared.bloom.command.Command.{Command}
