@@ -4,7 +4,7 @@ use crate::engines::faulty::{Seen, WHOLE};
 use crate::row_reports::tell_row;
 use std::alloc::{AllocError, Global};
 use std::thread::Threads;
-use summaries_engine::{Stop, build, build_alone, classic_with_bits};
+use summaries_engine::{AnyFilter, Stop, build, build_alone, classic_with_bits};
 
 // Two thousand keys of two bytes.
 fn keys_of(alloc: Global) -> Result<Vec<u8>, AllocError> {
@@ -24,7 +24,10 @@ fn is_alike<R: Threads + Sync + AllocGlobal>(
     let Ok(empty) = classic_with_bits(rt.alloc(), 1 << 14, 3, &0) else {
         return Err(Stop::Memory);
     };
-    let alone = build_alone::<10, _>(rt.alloc(), empty, odd, &["odd"])?;
+    let empty = AnyFilter::Classic(empty);
+    let AnyFilter::Classic(alone) = build_alone::<10, _>(rt.alloc(), empty, odd, &["odd"])? else {
+        return Ok(false);
+    };
     let Ok(empty) = classic_with_bits(rt.alloc(), 1 << 14, 3, &0) else {
         return Err(Stop::Memory);
     };
