@@ -2,7 +2,7 @@
 -- case that holds and cases as near as can be that don't.
 use Rattle.std.proofs.Common.{◌≡◌, ◌≤◌, ◌<◌, ◌+◌, ◌^◌, ℕ, true, false, ◌||◌, [], ◌∷◌, replicate, refl, ap, ◌∙◌, arith, lit<}
 use Rattle.std.proofs.lemmas.Bool.{both_ways, false_from_ne_true}
-use Rattle.bloom_blocked.proofs.Common.{chain, content, positions, are_in, Filter, num_lines_of, contains_in_line, InsertsInLine, InsertsAllInLines, InsertsItemsInLines, line_positions, positions_in_lines}
+use Rattle.bloom_blocked.proofs.Common.{chain, content, positions, are_in, Filter, num_lines_of, InsertsAllInLines, InsertsItemsInLines, line_positions, positions_in_lines, in_lines, contains, Inserts}
 use Rattle.bloom_parts.proofs.PublishedLemmas.{content-past}
 use Rattle.bloom_plain.proofs.CaseLemmas.{content-case}
 use Rattle.bloom_blocked.proofs.Cases.{line, zeros, with_one}
@@ -14,11 +14,11 @@ num_lines_of-case : (hasher : ℕ)
 num_lines_of-case hasher = refl
 
 -- hash 1 is contained where both positions are set, and not without one of them
-contains_in_line-cases : (contains_in_line with_one 1 ≡ true)
-    × (contains_in_line (line 8192 0 2 7) 1 ≡ false)
-    × (contains_in_line (line 8192 17179869184 3 7) 1 ≡ false)
+contains-in_lines : (contains in_lines with_one 1 ≡ true)
+    × (contains in_lines (line 8192 0 2 7) 1 ≡ false)
+    × (contains in_lines (line 8192 17179869184 3 7) 1 ≡ false)
 unfolding content are_in chain
-contains_in_line-cases = (refl, refl, refl)
+contains-in_lines = (refl, refl, refl)
 
 -- past the bits of one line no hash has a position
 past-line : (k hash p : ℕ) → hash < 2 ^ 64 → 512 ≤ p → line_positions 1 k hash p ≡ false
@@ -33,11 +33,11 @@ with-one old none p past =
     ap (λ b. b || line_positions 1 2 1 p) (none p past) ∙ past-line 2 1 p (lit< tt) past
 
 -- an insert sets the positions of its hash in the line, and tells what was contained
-inserts_in_line-cases : InsertsInLine zeros 1 with_one false
-    × (InsertsInLine zeros 1 with_one true → ⊥)
-    × (InsertsInLine zeros 1 (line 8192 0 2 7) false → ⊥)
+inserts-in_lines : Inserts in_lines zeros 1 with_one false
+    × (Inserts in_lines zeros 1 with_one true → ⊥)
+    × (Inserts in_lines zeros 1 (line 8192 0 2 7) false → ⊥)
 unfolding content positions chain are_in
-inserts_in_line-cases = (
+inserts-in_lines = (
   record {
     answers = refl;
     bits =

@@ -1,6 +1,6 @@
 -- The names that most proofs of this crate cite, besides those of the standard library, passed on
 -- from one place. Declares nothing.
-pub use Rattle.bloom_blocked.specs.Blocked.{InsertsAllInLines, InsertsInLine, InsertsItemsInLines, contains_in_line, num_lines_of}
+pub use Rattle.bloom_blocked.specs.Blocked.{InsertsAllInLines, InsertsItemsInLines, in_lines, num_lines_of}
 pub use Rattle.bloom_blocked.specs.BlockedSizing.{IsMadeInLinesFor, IsSizeInLines, IsSizeInLinesOf, IsTooLargeInLines, line_size_refusal, sized_in_lines}
 pub use Rattle.bloom_blocked.specs.LineCourses.{IsLineScript, IsMadeAsScript, taken_from}
 pub use Rattle.bloom_blocked.specs.LineRates.{BoundsLines, BoundsLoadedLines, LineWasLoaded, line_words}
@@ -16,7 +16,7 @@ pub use Rattle.bloom_parts.specs.Many.{is_found, is_new, with_all}
 pub use Rattle.bloom_parts.specs.Places.{IsPart, place}
 unfoldable pub use Rattle.bloom_parts.specs.Places.{are_in, positions}
 pub use Rattle.bloom_plain.proofs.BuilderLemmas.{inserts_all-same, size_of-rate}
-pub use Rattle.bloom_plain.specs.Filter.{Filter}
+pub use Rattle.bloom_plain.specs.Filter.{Filter, Inserts, contains}
 pub use Rattle.bloom_steps.specs.ByWords.{Lacks, SetsByWords, SetsItsPart}
 pub use Rattle.bloom_steps.specs.LiveSteps.{EachInTurn, IsMade, IsMadeFrom, step_from}
 pub use Rattle.bloom_steps.specs.Scripts.{Any, IsScript, Taken}

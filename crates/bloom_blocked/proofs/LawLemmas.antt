@@ -2,7 +2,8 @@
 use Rattle.std.proofs.Common.{ℕ, ◌/◌, Bool, ◌||◌, List, [], ◌∷◌, refl, sym, ◌∙◌, ap, subst}
 use Rattle.bloom_blocked.proofs.Common.{or_left, or-false, content, Filter, line_place, line_positions}
 use Rattle.bloom_plain.proofs.LawLemmas.{IsLawful, contains-greater}
-use Rattle.bloom_blocked.specs.Blocked.{in_lines, num_lines_of, InsertsInLine, InsertsAllInLines}
+use Rattle.bloom_plain.specs.Filter.{Inserts}
+use Rattle.bloom_blocked.specs.Blocked.{in_lines, num_lines_of, InsertsAllInLines}
 use Rattle.bloom_blocked.specs.BlockedLaws.{KeptByInsertsInLinesLaw, InsertsOneByOne, OneByOneLaw}
 use Rattle.bloom_blocked.proofs.PositionLemmas.{line_positions_law, line_subset_law}
 use Rattle.bloom_blocked.specs.InsertLaws.{inserts_all-none, inserts_all-join}
@@ -24,7 +25,7 @@ kept_by_inserts_law S old new hashes hash did =
 
 -- one insert inserts a list of one
 pub inserts_all_one : {S : Type 0} (old new : Filter S) (hash : ℕ) (reply : Bool)
-    → InsertsInLine old hash new reply → InsertsAllInLines old (hash ∷ []) new
+    → Inserts in_lines old hash new reply → InsertsAllInLines old (hash ∷ []) new
 inserts_all_one old new hash reply did = record {
   bits = λ p.
       did.bits p

@@ -3,7 +3,7 @@
 -- kinds. Only the positions of a hash are others. This project's own.
 use Rattle.std.specs.Prelude.{◌≡◌, ℕ, ◌/◌, ◌%◌, ◌^◌, ◌<◌, ◌≤◌, Bool, ◌||◌, List, length, map}
 use Rattle.bloom_parts.specs.Content.{content}
-use Rattle.bloom_plain.specs.Filter.{Filter, SameShape, Placement, contains_by, InsertsBy}
+use Rattle.bloom_plain.specs.Filter.{Filter, SameShape, Placement}
 use Rattle.bloom_blocked.specs.Lines.{line_positions, are_in_line}
 use Rattle.bloom_blocked.specs.Many.{positions_in_lines}
 
@@ -30,14 +30,6 @@ in_lines = record {
   positions = λ words. line_positions (words / 8);
   are_in = λ words. are_in_line (words / 8);
 }
-
--- whether all positions of a hash are set
-abbrev pub contains_in_line : {S : Type 0} → Filter S → ℕ → Bool
-contains_in_line f hash = contains_by in_lines f hash
-
--- an insert took a blocked filter to the new one
-abbrev pub InsertsInLine : {S : Type 0} → Filter S → ℕ → Filter S → Bool → Type 0
-InsertsInLine old hash new reply = InsertsBy in_lines old hash new reply
 
 -- from old to new the hashes of a list were inserted: the positions of all of them were set
 pub record InsertsAllInLines {S : Type 0} (old : Filter S) (hashes : List ℕ) (new : Filter S)

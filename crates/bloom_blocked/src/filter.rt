@@ -2,9 +2,9 @@
 ghost use Rattle.std.specs.Prelude.{◌≡◌, ◌*◌, ◌%◌, ◌^◌, ◌<◌, ◌≤◌, length, max};
 ghost use Rattle.std.specs.Iterator.Adapters.{copied_source};
 ghost use Rattle.bloom_parts.specs.Content.{content, AreWords};
-ghost use Rattle.bloom_plain.specs.Filter.{num_bits_of};
+ghost use Rattle.bloom_plain.specs.Filter.{num_bits_of, contains, Inserts};
 ghost use Rattle.bloom_plain.specs.Ones.{ones_of};
-ghost use Rattle.bloom_blocked.specs.Blocked.{HasBlockedShape, contains_in_line, InsertsInLine, InsertsAllInLines, num_lines_of};
+ghost use Rattle.bloom_blocked.specs.Blocked.{HasBlockedShape, InsertsAllInLines, num_lines_of, in_lines};
 ghost use Rattle.bloom_blocked.specs.LineRates.{BoundsLines, line_words};
 ghost use Rattle.bloom_blocked.specs.Many.{TellsFoundInLines, TellsNewInLines};
 
@@ -139,7 +139,7 @@ impl<S> BlockedBloomFilter<S> {
     /// Sets all positions of a hash, and returns whether all of them were set before.
     #[inline(always)]
     pub fn insert_hash(&mut self, hash: u64) -> bool
-        ensures inserts { InsertsInLine self.old hash self.new result }
+        ensures inserts { Inserts in_lines self.old hash self.new result }
     {
         // It is 1 at least, which the compiler sees in this form alone.
         let num_hashes = self.num_hashes.max(1);
@@ -150,7 +150,7 @@ impl<S> BlockedBloomFilter<S> {
     /// hash wasn't inserted since the last `clear` or `intersect`.
     #[inline(always)]
     pub fn contains_hash(&self, hash: u64) -> bool
-        ensures found { result ≡ contains_in_line self.now hash }
+        ensures found { result ≡ contains in_lines self.now hash }
     {
         by_hash::contains_hash(self.words.as_slice(), self.num_hashes, hash)
     }

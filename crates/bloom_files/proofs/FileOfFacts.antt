@@ -8,7 +8,8 @@ use Rattle.bloom_parts.specs.Chain.{chain}
 use Rattle.bloom_parts.specs.Content.{content}
 use Rattle.bloom_parts.specs.Places.{are_in}
 use Rattle.bloom_plain.specs.Data.{AnswerAlike, DefaultFilter}
-use Rattle.bloom_blocked.specs.Blocked.{contains_in_line}
+use Rattle.bloom_plain.specs.Filter.{contains, anywhere}
+use Rattle.bloom_blocked.specs.Blocked.{in_lines}
 use Rattle.bloom_files.specs.FilterFiles.{BlockedRefusedLaw, FileLaw, IsFileOf, NotBlockedRefusedLaw, ReadableLaw, ReadsFile, SameFileItemsLaw, WritesFile, file_of}
 use Rattle.bloom_files.proofs.Cases.{crabs, filter, line_crabs, line_file, line_words, unsealed, worked}
 use Rattle.bloom_files.proofs.LayoutFacts.{differs, is_file-lines, is_file-unsealed, is_file-worked}
@@ -87,20 +88,21 @@ writes = (
 )
 
 -- each filter of the file of one word answers as its filter does
-file_law-whole : FileLaw → (f : DefaultFilter) → IsFileOf Whole worked f → AnswerAlike crabs f
+file_law-whole : FileLaw → (f : DefaultFilter) → IsFileOf Whole worked f
+    → AnswerAlike anywhere crabs f
 file_law-whole law f is = law Whole worked crabs f of-worked is
 
 -- each filter of the file of one line has its words and hashes, and contains the hash of `crab`,
 -- and not the one after
 file_law-lines : FileLaw → (f : DefaultFilter) → IsFileOf Lines line_file f
     → (f.words ≡ line_words) × (f.hashes ≡ 3)
-    × (contains_in_line f 0x28b5_d1a8_6888_d657 ≡ true)
-    × (contains_in_line f 0x28b5_d1a8_6888_d658 ≡ false)
+    × (contains in_lines f 0x28b5_d1a8_6888_d657 ≡ true)
+    × (contains in_lines f 0x28b5_d1a8_6888_d658 ≡ false)
 unfolding content are_in chain
 file_law-lines law f is =
     let same = law Lines line_file line_crabs f of-lines is in
-    let here : contains_in_line line_crabs 0x28b5_d1a8_6888_d657 ≡ true = refl in
-    let none : contains_in_line line_crabs 0x28b5_d1a8_6888_d658 ≡ false = refl in (
+    let here : contains in_lines line_crabs 0x28b5_d1a8_6888_d657 ≡ true = refl in
+    let none : contains in_lines line_crabs 0x28b5_d1a8_6888_d658 ≡ false = refl in (
       same.words,
       same.hashes,
       same.found 0x28b5_d1a8_6888_d657 ∙ here,

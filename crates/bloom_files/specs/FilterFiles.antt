@@ -4,7 +4,7 @@ use Rattle.std.specs.Prelude.{◌≡◌, ℕ, List, Option, Some, None}
 use Rattle.std.specs.Io.KnownBytes.{Appends, Consumes, IsAtEnd}
 use Rattle.bloom_parts.specs.declared.hasher.CloneBuildHasher.{CloneBuildHasher}
 use Rattle.bloom_parts.specs.declared.hasher.sip.RandomDefaultHasher.{RandomDefaultHasher}
-use Rattle.bloom_plain.specs.Data.{AnswerAlikeBy, DefaultFilter}
+use Rattle.bloom_plain.specs.Data.{AnswerAlike, DefaultFilter}
 use Rattle.bloom_plain.specs.Filter.{Placement, anywhere}
 use Rattle.bloom_blocked.specs.Blocked.{in_lines}
 use Rattle.bloom_files.specs.declared.error.FileError.TheVariants.{Blocked, NotBlocked}
@@ -45,7 +45,7 @@ placement_in Lines = in_lines
 -- two filters of one file contain the same hashes
 abbrev pub FileLaw : Type 0
 FileLaw = (layout : Layout) (bytes : List ℕ) (f g : DefaultFilter) → IsFileOf layout bytes f
-    → IsFileOf layout bytes g → AnswerAlikeBy (placement_in layout) f g
+    → IsFileOf layout bytes g → AnswerAlike (placement_in layout) f g
 
 -- filters of one file whose hashers have taken in nothing give each item one source hash
 abbrev pub SameFileItemsLaw :

@@ -5,7 +5,7 @@ use Rattle.std.proofs.Common.{◌<◌, ◌*◌, ◌^◌, ◌≤◌, ℕ, false, 
 use Rattle.bloom_growing.proofs.Common.{chain, content, positions, are_in, Rate, Setup, setup_of, Growing, IsNumber, Plain, Rotating}
 use Rattle.bloom_parts.specs.Roots.{IsRoot}
 use Rattle.bloom_parts.specs.Sizing.{IsHalvings}
-use Rattle.bloom_plain.specs.Filter.{Filter, Inserts}
+use Rattle.bloom_plain.specs.Filter.{Filter, Inserts, anywhere}
 use Rattle.bloom_plain.proofs.CaseLemmas.{content-case, content-past, positions-past}
 
 -- the rate num / den
@@ -57,7 +57,7 @@ abbrev pub with_none : Filter ℕ
 with_none = of_word 0
 
 -- an insert of hash 1 into a zero word sets its two positions
-pub inserts-one : Inserts with_none 1 with_one false
+pub inserts-one : Inserts anywhere with_none 1 with_one false
 unfolding content positions chain are_in
 inserts-one = record {
   answers = refl;

@@ -1,6 +1,6 @@
 -- What a filter that grows keeps through its calls.
 use Rattle.std.proofs.Common.{◌≡◌, ℕ, zero, suc, ◌+◌, ◌*◌, ◌^◌, ◌<◌, ◌≤◌, false, List, [], ◌∷◌, ◌++◌, length, Option, Some, None, inl, inr, refl, sym, ◌∙◌, ap, subst, arith, lit≤, length-append}
-use Rattle.bloom_growing.proofs.Common.{MatchOption, cases_lt, one-le-pow, Rate, num_of, den_of, Filter, Kind, InsertsIn, IsMadeIn}
+use Rattle.bloom_growing.proofs.Common.{MatchOption, cases_lt, one-le-pow, Rate, num_of, den_of, Filter, Kind, IsMadeIn, placement_of, Inserts}
 use Rattle.std.specs.Option.{SomeIff}
 use Rattle.bloom_parts.specs.declared.hasher.CloneBuildHasher.{CloneBuildHasher}
 use Rattle.bloom_parts.specs.declared.hasher.sip.RandomDefaultHasher.{RandomDefaultHasher}
@@ -113,7 +113,7 @@ module _ (kind : Kind) (g : Growing (CloneBuildHasher RandomDefaultHasher)) (rat
   -- the newest filter with one more hash keeps the rule
   pub kept-adds : (hash : ℕ) (new : Filter (CloneBuildHasher RandomDefaultHasher))
       → any_contains kind g.older hash ≡ false → g.taken < newest_room g
-      → InsertsIn kind g.newest hash new false
+      → Inserts (placement_of kind) g.newest hash new false
       → IsSound kind (record {
         setup = g.setup;
         older = g.older;

@@ -2,7 +2,7 @@
 use Rattle.std.proofs.Common.{◌≡◌, ℕ, zero, suc, ◌+◌, ◌*◌, ◌^◌, ◌<◌, Bool, true, false, List, [], ◌∷◌, ◌++◌, refl, sym, ◌∙◌, ap, subst, arith, add-one, inl, inr}
 use Rattle.std.proofs.Math.Nat.{mul-pos, pow-suc, lt_of_mul-lt-mul_right}
 use Rattle.std.proofs.lemmas.Bool.{or_cases, or_left, or_right, cases_lt}
-use Rattle.bloom_growing.proofs.Common.{num_of, den_of, Rate, Growing, any_contains, has, den_at, newest_room, BeginsNext, Adds, Accepts, Kind, contains_in}
+use Rattle.bloom_growing.proofs.Common.{num_of, den_of, Rate, Growing, any_contains, has, den_at, newest_room, BeginsNext, Adds, Accepts, Kind, placement_of, contains}
 use Rattle.bloom_growing.specs.GrowingLaws.{AcceptsAll, sum_of_rates, RatesBelowLaw}
 use Rattle.bloom_growing.proofs.GrowingLemmas.{has-or}
 use Rattle.bloom_growing.proofs.GrowingKeptLemmas.{some_room_at}
@@ -15,7 +15,7 @@ module _ {S : Type 0} (kind : Kind) where
   has-older g hash found = has-or kind g hash ∙ or_left (any_contains kind g.older hash) _ found
 
   -- the newest filter is enough as well
-  has-newest : (g : Growing S) (hash : ℕ) → contains_in kind g.newest hash ≡ true
+  has-newest : (g : Growing S) (hash : ℕ) → contains (placement_of kind) g.newest hash ≡ true
       → has kind g hash ≡ true
   has-newest g hash found = has-or kind g hash ∙ or_right (any_contains kind g.older hash) _ found
 
@@ -30,8 +30,7 @@ module _ {S : Type 0} (kind : Kind) where
       → has kind old hash ≡ true
       → has kind new hash ≡ true
   has-adds old new added hash adds found =
-      elim (or_cases (any_contains kind old.older hash) (contains_in kind old.newest hash)
-      (sym (has-or kind old hash) ∙ found)) [
+      elim (or_cases (any_contains kind old.older hash) _ (sym (has-or kind old hash) ∙ found)) [
         | inl older ↦
             has-older new hash (ap (λ l. any_contains kind l hash) adds.older ∙ older)
         | inr newest ↦

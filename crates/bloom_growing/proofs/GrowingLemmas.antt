@@ -1,7 +1,7 @@
 -- Filters that grow: what they contain, and the rule that they keep.
 use Rattle.std.proofs.Common.{◌≡◌, ℕ, ◌+◌, ◌*◌, false, ◌||◌, List, [], ◌∷◌, ◌++◌, length, refl, sym, ◌∙◌, ap, subst, arith, add-one, append-nil, append_assoc, length-append}
 use Rattle.std.proofs.Math.Bool.{or-false}
-use Rattle.bloom_growing.proofs.Common.{pow-suc, list_any-append, den_of, Rate, Filter, Setup, Growing, room_at, den_at, rate_start, IsNumber, any_contains, has, Took, AreFull, Kind, contains_in, InsertsIn}
+use Rattle.bloom_growing.proofs.Common.{pow-suc, list_any-append, den_of, Rate, Filter, Setup, Growing, room_at, den_at, rate_start, IsNumber, any_contains, has, Took, AreFull, Kind, placement_of, contains, Inserts}
 use Rattle.std.proofs.lemmas.List.Elements.{All-append, All-cons, All-nil}
 use Rattle.bloom_growing.proofs.KindLemmas.{new-next, made-zeros, made-hashes, zeros-contain}
 
@@ -15,14 +15,16 @@ den_at-next rate i = room_at-next (den_of rate) (i + 1)
 
 -- the filters contain a hash if an older one or the newest does
 pub has-or : {S : Type 0} (kind : Kind) (g : Growing S) (hash : ℕ)
-    → has kind g hash ≡ (any_contains kind g.older hash || contains_in kind g.newest hash)
+    → has kind g hash
+      ≡ (any_contains kind g.older hash || contains (placement_of kind) g.newest hash)
 has-or kind g hash =
-    list_any-append (λ f. contains_in kind f hash) g.older (g.newest ∷ [])
-    ∙ ap (λ b. any_contains kind g.older hash || b) (or-false (contains_in kind g.newest hash))
+    list_any-append (λ f. contains (placement_of kind) f hash) g.older (g.newest ∷ [])
+    ∙ ap (λ b. any_contains kind g.older hash || b)
+    (or-false (contains (placement_of kind) g.newest hash))
 
 -- a filter that was just made contains no hash
 pub made-empty : {S : Type 0} (kind : Kind) (setup : Setup S) (i : ℕ) (made : Filter S) (hash : ℕ)
-    → IsNumber kind setup i made → contains_in kind made hash ≡ false
+    → IsNumber kind setup i made → contains (placement_of kind) made hash ≡ false
 made-empty kind setup i made hash is =
     let start = rate_start is.rate setup.hasher in
     let zeros = made-zeros kind start (room_at setup.room i) made is.is_made in
@@ -44,7 +46,7 @@ took-none kind setup older made is = record {
 -- a filter took one more hash
 pub took-next : {S : Type 0} (kind : Kind) (setup : Setup S) (older : List (Filter S)) (count : ℕ)
     (filter new : Filter S) (hash : ℕ) → Took kind setup older count filter
-    → any_contains kind older hash ≡ false → InsertsIn kind filter hash new false
+    → any_contains kind older hash ≡ false → Inserts (placement_of kind) filter hash new false
     → Took kind setup older (count + 1) new
 took-next kind setup older count filter new hash took absent did =
     let P = λ (h : ℕ). any_contains kind older h ≡ false in

@@ -1,7 +1,7 @@
 -- Filters of both kinds: of each definition cases that hold, and the nearest that don't. In a line
 -- of 512 bits hash 1 has the positions 162 and 13, in a plain filter others.
 use Rattle.std.proofs.Common.{◌≡◌, ◌∙◌, ℕ, true, false, [], ◌∷◌, length, replicate, Some, None, refl, ap, arith, lit≤}
-use Rattle.bloom_growing.proofs.Common.{chain, content, positions, are_in, RateStart, words_for, Filter, rate_start, Plain, Blocked, contains_in, InsertsIn, IsSizeIn, IsMadeIn, size_refusal_in}
+use Rattle.bloom_growing.proofs.Common.{chain, content, positions, are_in, RateStart, words_for, Filter, rate_start, Plain, Blocked, IsSizeIn, IsMadeIn, size_refusal_in, placement_of, contains, Inserts}
 use Rattle.bloom_parts.specs.Sizing.{IsSizeFor, size_for}
 use Rattle.bloom_parts.specs.declared.error.FilterError.TheVariants.{TooManyWords}
 use Rattle.bloom_blocked.specs.BlockedSizing.{bits_in_lines}
@@ -16,18 +16,18 @@ line_with_one = record {
 }
 
 -- a hash is contained by its positions in a line, or by those anywhere
-contains : (contains_in Blocked line_with_one 1 ≡ true)
-    × (contains_in Plain line_with_one 1 ≡ false)
-    × (contains_in Plain with_one 1 ≡ true)
-    × (contains_in Blocked with_one 1 ≡ false)
+contains-kinds : (contains (placement_of Blocked) line_with_one 1 ≡ true)
+    × (contains (placement_of Plain) line_with_one 1 ≡ false)
+    × (contains (placement_of Plain) with_one 1 ≡ true)
+    × (contains (placement_of Blocked) with_one 1 ≡ false)
 unfolding content are_in chain
-contains = (refl, refl, refl, refl)
+contains-kinds = (refl, refl, refl, refl)
 
 -- an insert sets those anywhere, or the positions in a line
-inserts : InsertsIn Plain with_none 1 with_one false
-    × (InsertsIn Blocked with_none 1 with_one false → ⊥)
+inserts-kinds : Inserts (placement_of Plain) with_none 1 with_one false
+    × (Inserts (placement_of Blocked) with_none 1 with_one false → ⊥)
 unfolding content positions chain
-inserts = (inserts-one, λ did. let wrong : true ≡ false = did.bits 0 in cc)
+inserts-kinds = (inserts-one, λ did. let wrong : true ≡ false = did.bits 0 in cc)
 
 -- one item at the rate two takes 64 bits in a plain filter, since no filter has fewer
 only-size : (bits : ℕ) → IsSizeFor 1 4 2 bits → bits ≡ 64

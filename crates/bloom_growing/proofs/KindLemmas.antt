@@ -3,11 +3,11 @@ use Rattle.std.proofs.Common.{◌≡◌, ℕ, zero, suc, ◌*◌, ◌<◌, ◌�
 use Rattle.bloom_growing.proofs.Common.{or_left, or_right, content, AreWords, EqualWordsLaw, RateStart, words_for, any_contains}
 use Rattle.bloom_parts.specs.Sizing.{hashes_for}
 use Rattle.bloom_parts.proofs.PublishedLemmas.{content-zeros}
-use Rattle.bloom_plain.specs.Filter.{Filter, SameShape}
+use Rattle.bloom_plain.specs.Filter.{Filter, SameShape, contains, Inserts}
 use Rattle.bloom_plain.proofs.LawLemmas.{IsLawful, anywhere-lawful, contained-insert, contains-none, insert_law, kept_by_insert_law}
 use Rattle.bloom_blocked.specs.BlockedSizing.{line_words_for}
 use Rattle.bloom_blocked.proofs.LawLemmas.{in_lines-lawful}
-use Rattle.bloom_growing.specs.Kinds.{Kind, Plain, Blocked, placement_of, contains_in, InsertsIn, InsertsNew, IsMadeIn}
+use Rattle.bloom_growing.specs.Kinds.{Kind, Plain, Blocked, placement_of, InsertsNew, IsMadeIn}
 
 -- both kinds are lawful
 pub lawful : (kind : Kind) → IsLawful (placement_of kind)
@@ -28,14 +28,15 @@ hashes_for-least bits items =
 module _ {S : Type 0} where
   -- after an insert its hash is contained
   pub insert-found : (kind : Kind) (old new : Filter S) (hash : ℕ) (reply : Bool)
-      → InsertsIn kind old hash new reply → contains_in kind new hash ≡ true
+      → Inserts (placement_of kind) old hash new reply
+      → contains (placement_of kind) new hash ≡ true
   insert-found kind old new hash reply did =
       (insert_law (placement_of kind) (lawful kind) S old new hash reply did).1
 
   -- a hash that is contained stays so
   pub insert-keeps : (kind : Kind) (old new : Filter S) (inserted hash : ℕ) (reply : Bool)
-      → InsertsIn kind old inserted new reply → contains_in kind old hash ≡ true
-      → contains_in kind new hash ≡ true
+      → Inserts (placement_of kind) old inserted new reply
+      → contains (placement_of kind) old hash ≡ true → contains (placement_of kind) new hash ≡ true
   insert-keeps kind = kept_by_insert_law (placement_of kind) (lawful kind) S
 
   -- filters of one shape and hasher are equal if their bits are, as words have 64 bits
@@ -50,8 +51,8 @@ module _ {S : Type 0} where
 
   -- an insert of a hash that was contained changed nothing
   pub insert-held : (kind : Kind) (old new : Filter S) (hash : ℕ) (reply : Bool) → EqualWordsLaw
-      → AreWords old.words → AreWords new.words → InsertsIn kind old hash new reply → reply ≡ true
-      → new ≡ old
+      → AreWords old.words → AreWords new.words → Inserts (placement_of kind) old hash new reply
+      → reply ≡ true → new ≡ old
   insert-held kind old new hash reply law fit fit' did held =
       let none = contained-insert (placement_of kind) (lawful kind) old hash
       (sym did.answers ∙ held) in
@@ -81,10 +82,10 @@ module _ {S : Type 0} where
 
   -- one more new hash was inserted
   pub new-next : (kind : Kind) (old : Filter S) (hashes : List ℕ) (filter new : Filter S) (hash : ℕ)
-      → InsertsNew kind old hashes filter → InsertsIn kind filter hash new false
+      → InsertsNew kind old hashes filter → Inserts (placement_of kind) filter hash new false
       → InsertsNew kind old (hashes ++ hash ∷ []) new
   new-next kind old [] filter new hash same did =
-      (new, subst (λ f. InsertsIn kind f hash new false) same did, refl)
+      (new, subst (λ f. Inserts (placement_of kind) f hash new false) same did, refl)
   new-next kind old (first ∷ later) filter new hash all did =
       (all.0, all.1, new-next kind all.0 later filter new hash all.2 did)
 
@@ -105,7 +106,7 @@ module _ {S : Type 0} where
 
   -- zero words contain no hash
   pub zeros-contain : (kind : Kind) (f : Filter S) (hash n : ℕ) → 1 ≤ f.hashes
-      → f.words ≡ replicate n 0 → contains_in kind f hash ≡ false
+      → f.words ≡ replicate n 0 → contains (placement_of kind) f hash ≡ false
   zeros-contain kind f hash n some zeros =
       contains-none (placement_of kind) (lawful kind) f hash some
       (λ p. ap (λ w. content w p) zeros ∙ content-zeros n p)
@@ -113,11 +114,12 @@ module _ {S : Type 0} where
 -- a filter that contains a hash is enough among several
 pub any-at : {S F : Type 0} (kind : Kind) (seen : F → Filter S) (filters : List F) (i : ℕ) (f : F)
     (hash : ℕ) → i < length filters → f ≡ get_or filters i f
-    → contains_in kind (seen f) hash ≡ true → any_contains kind (map seen filters) hash ≡ true
+    → contains (placement_of kind) (seen f) hash ≡ true
+    → any_contains kind (map seen filters) hash ≡ true
 any-at kind seen [] i f hash below is found = absurd (omega (arith, below))
 any-at kind seen (first ∷ later) zero f hash below is found =
-    or_left (contains_in kind (seen first) hash) _
-    (ap (λ g. contains_in kind (seen g) hash) (sym is) ∙ found)
+    or_left (contains (placement_of kind) (seen first) hash) _
+    (ap (λ g. contains (placement_of kind) (seen g) hash) (sym is) ∙ found)
 any-at kind seen (first ∷ later) (suc i) f hash below is found =
-    or_right (contains_in kind (seen first) hash) _
+    or_right (contains (placement_of kind) (seen first) hash) _
     (any-at kind seen later i f hash (omega (arith, below)) is found)

@@ -1,6 +1,6 @@
 -- What a filter that rotates still contains of the hashes that came.
 use Rattle.std.proofs.Common.{◌≡◌, ◌⊎◌, inl, inr, ◌+◌, ◌<◌, ◌≤◌, ℕ, Bool, true, false, ◌||◌, List, [], ◌∷◌, ◌++◌, length, nat_eq, refl, sym, ◌∙◌, ap, subst, length-append, arith}
-use Rattle.bloom_growing.proofs.Common.{cases_lt, or_left, or_right, true≢false, Filter, Kind, contains_in, InsertsIn}
+use Rattle.bloom_growing.proofs.Common.{cases_lt, or_left, or_right, true≢false, Filter, Kind, placement_of, contains, Inserts}
 use Rattle.std.proofs.lemmas.List.{append-nil, append_assoc}
 use Rattle.std.specs.Cmp.{unsigned_Decides}
 use Rattle.std.specs.Set.{distinct_count, is_member}
@@ -16,7 +16,7 @@ count hashes = distinct_count nat_eq hashes
 -- came than it took, and one of both contains each behind which fewer came than each is for
 record Holds {S : Type 0} (kind : Kind) (r : Rotating S) (came : List ℕ) : Type 0 where
   newer : (front behind : List ℕ) (hash : ℕ) → came ≡ front ++ hash ∷ behind
-      → count behind < r.taken → contains_in kind r.newer hash ≡ true
+      → count behind < r.taken → contains (placement_of kind) r.newer hash ≡ true
   both : (front behind : List ℕ) (hash : ℕ) → came ≡ front ++ hash ∷ behind
       → count behind < r.setup.room → either_contains kind r hash ≡ true
 
@@ -46,7 +46,7 @@ module _ {S : Type 0} (kind : Kind) (old : Rotating S) (hash : ℕ) (came : List
 
   -- where the newer filter lacks the hash, of the hashes behind one of the last that it took there
   -- are fewer different ones than with this hash
-  fewer : contains_in kind old.newer hash ≡ false → (front rest : List ℕ) (other : ℕ)
+  fewer : contains (placement_of kind) old.newer hash ≡ false → (front rest : List ℕ) (other : ℕ)
       → came ≡ front ++ other ∷ rest → count (rest ++ hash ∷ []) < old.taken + 1
       → count rest < old.taken
   fewer absent front rest other cut few = by (is_member nat_eq rest hash) refl
@@ -71,16 +71,16 @@ module _ {S : Type 0} (kind : Kind) (old : Rotating S) (hash : ℕ) (came : List
           ∙ absent))
 
   -- a filter that took the hash has each of the last ones
-  filled-has : (filled : Filter S) → InsertsIn kind old.newer hash filled false
-      → contains_in kind old.newer hash ≡ false → (front behind : List ℕ) (other : ℕ)
+  filled-has : (filled : Filter S) → Inserts (placement_of kind) old.newer hash filled false
+      → contains (placement_of kind) old.newer hash ≡ false → (front behind : List ℕ) (other : ℕ)
       → came ++ hash ∷ [] ≡ front ++ other ∷ behind → count behind < old.taken + 1
-      → contains_in kind filled other ≡ true
+      → contains (placement_of kind) filled other ≡ true
   filled-has filled inserts absent front behind other cut few =
       by (cut-last came front behind hash other cut)
     where
-      by : Cut front behind other → contains_in kind filled other ≡ true
+      by : Cut front behind other → contains (placement_of kind) filled other ≡ true
       by (inl same) =
-          subst (λ h. contains_in kind filled h ≡ true) (sym same)
+          subst (λ h. contains (placement_of kind) filled h ≡ true) (sym same)
           (insert-found kind old.newer filled hash false inserts)
       by (inr is) =
           insert-keeps kind old.newer filled hash other false inserts
@@ -89,7 +89,7 @@ module _ {S : Type 0} (kind : Kind) (old : Rotating S) (hash : ℕ) (came : List
           (subst (λ l. count l < old.taken + 1) is.1 few)))
 
   -- the newer filter has the hash, and nothing changed
-  held : contains_in kind old.newer hash ≡ true → Holds kind old (came ++ hash ∷ [])
+  held : contains (placement_of kind) old.newer hash ≡ true → Holds kind old (came ++ hash ∷ [])
   held has = record {
     newer = λ front behind other cut few.
         newer front behind other few (cut-last came front behind hash other cut);
@@ -98,9 +98,9 @@ module _ {S : Type 0} (kind : Kind) (old : Rotating S) (hash : ℕ) (came : List
   }
     where
       newer : (front behind : List ℕ) (other : ℕ) → count behind < old.taken
-          → Cut front behind other → contains_in kind old.newer other ≡ true
+          → Cut front behind other → contains (placement_of kind) old.newer other ≡ true
       newer front behind other few (inl same) =
-          subst (λ h. contains_in kind old.newer h ≡ true) (sym same) has
+          subst (λ h. contains (placement_of kind) old.newer h ≡ true) (sym same) has
       newer front behind other few (inr is) =
           holds.newer front is.0 other is.2
           (omega (arith, few, some-more nat_eq unsigned_Decides is.0 hash, ap count is.1))
@@ -108,15 +108,15 @@ module _ {S : Type 0} (kind : Kind) (old : Rotating S) (hash : ℕ) (came : List
       both : (front behind : List ℕ) (other : ℕ) → count behind < old.setup.room
           → Cut front behind other → either_contains kind old other ≡ true
       both front behind other few (inl same) =
-          or_left (contains_in kind old.newer other) (contains_in kind old.older other)
-          (subst (λ h. contains_in kind old.newer h ≡ true) (sym same) has)
+          or_left (contains (placement_of kind) old.newer other) _
+          (subst (λ h. contains (placement_of kind) old.newer h ≡ true) (sym same) has)
       both front behind other few (inr is) =
           holds.both front is.0 other is.2
           (omega (arith, few, some-more nat_eq unsigned_Decides is.0 hash, ap count is.1))
 
   -- the newer filter took the hash, and stays the newer one
-  filled : (new : Rotating S) → contains_in kind old.newer hash ≡ false → Fills kind old hash new
-      → new.setup ≡ old.setup → Holds kind new (came ++ hash ∷ [])
+  filled : (new : Rotating S) → contains (placement_of kind) old.newer hash ≡ false
+      → Fills kind old hash new → new.setup ≡ old.setup → Holds kind new (came ++ hash ∷ [])
   filled new absent fills setup = record {
     newer = λ front behind other cut few.
         filled-has new.newer fills.newer absent front behind other cut
@@ -128,14 +128,14 @@ module _ {S : Type 0} (kind : Kind) (old : Rotating S) (hash : ℕ) (came : List
       both : (front behind : List ℕ) (other : ℕ) → count behind < new.setup.room
           → Cut front behind other → either_contains kind new other ≡ true
       both front behind other few (inl same) =
-          or_left (contains_in kind new.newer other) (contains_in kind new.older other)
-          (subst (λ h. contains_in kind new.newer h ≡ true) (sym same)
+          or_left (contains (placement_of kind) new.newer other) _
+          (subst (λ h. contains (placement_of kind) new.newer h ≡ true) (sym same)
           (insert-found kind old.newer new.newer hash false fills.newer))
       both front behind other few (inr is) =
-          subst (λ f. (contains_in kind new.newer other || contains_in kind f other) ≡ true)
-          (sym fills.older)
-          (or-more (contains_in kind old.newer other) (contains_in kind old.older other)
-          (contains_in kind new.newer other)
+          let at = placement_of kind in
+          subst (λ f. (contains at new.newer other || contains at f other) ≡ true) (sym fills.older)
+          (or-more (contains at old.newer other) (contains at old.older other)
+          (contains at new.newer other)
           (insert-keeps kind old.newer new.newer hash other false fills.newer)
           (holds.both front is.0 other is.2
           (omega (
@@ -147,12 +147,13 @@ module _ {S : Type 0} (kind : Kind) (old : Rotating S) (hash : ℕ) (came : List
           ))))
 
   -- the newer filter took the hash, and became the older one
-  turned : (new : Rotating S) → contains_in kind old.newer hash ≡ false → Turns kind old hash new
-      → new.setup ≡ old.setup → old.setup.room ≤ old.taken + 1 → Holds kind new (came ++ hash ∷ [])
+  turned : (new : Rotating S) → contains (placement_of kind) old.newer hash ≡ false
+      → Turns kind old hash new → new.setup ≡ old.setup → old.setup.room ≤ old.taken + 1
+      → Holds kind new (came ++ hash ∷ [])
   turned new absent turns setup full = record {
     newer = λ front behind other cut few. absurd (omega (arith, few, turns.taken));
     both = λ front behind other cut few.
-        or_right (contains_in kind new.newer other) (contains_in kind new.older other)
+        or_right (contains (placement_of kind) new.newer other) _
         (filled-has new.older turns.older absent front behind other cut
         (omega (arith, few, ap (λ p. p.room) setup, full)));
   }
@@ -160,14 +161,15 @@ module _ {S : Type 0} (kind : Kind) (old : Rotating S) (hash : ℕ) (came : List
   -- one more hash came
   holds-more : (new : Rotating S) (reply : Bool) → Receives kind old hash new reply
       → Holds kind new (came ++ hash ∷ [])
-  holds-more new reply did = by (contains_in kind old.newer hash) refl
+  holds-more new reply did = by (contains (placement_of kind) old.newer hash) refl
     where
       room : (old.taken + 1 < old.setup.room) ⊎ (old.setup.room ≤ old.taken + 1)
-          → contains_in kind old.newer hash ≡ false → Holds kind new (came ++ hash ∷ [])
+          → contains (placement_of kind) old.newer hash ≡ false → Holds kind new (came ++ hash ∷ [])
       room (inl spare) absent = filled new absent (did.fills absent spare) did.setup
       room (inr full) absent = turned new absent (did.turns absent full) did.setup full
 
-      by : (b : Bool) → contains_in kind old.newer hash ≡ b → Holds kind new (came ++ hash ∷ [])
+      by : (b : Bool) → contains (placement_of kind) old.newer hash ≡ b
+          → Holds kind new (came ++ hash ∷ [])
       by true is =
           subst (λ r. Holds kind r (came ++ hash ∷ [])) (sym (did.held is)) (held is)
       by false absent = room (cases_lt (old.taken + 1) old.setup.room) absent

@@ -2,7 +2,7 @@
 use Rattle.std.proofs.Common.{◌≡◌, ℕ, ◌+◌, ◌^◌, ◌<◌, ◌≤◌, Bool, true, false, [], ◌∷◌, nat_eq, if◌then◌else◌, refl, sym, ◌∙◌, ap, subst, arith, lit<}
 use Rattle.std.proofs.lemmas.List.Elements.{All-replicate}
 use Rattle.std.specs.Cmp.{unsigned_Decides}
-use Rattle.bloom_growing.proofs.Common.{Bracket, content, AreWords, EqualWordsLaw, Filter, Clears, Setup, IsNumber, Took, rate_start, room_at, Part, BoundsAny, Kind, InsertsIn}
+use Rattle.bloom_growing.proofs.Common.{Bracket, content, AreWords, EqualWordsLaw, Filter, Clears, Setup, IsNumber, Took, rate_start, room_at, Part, BoundsAny, Kind, placement_of, Inserts}
 use Rattle.bloom_parts.specs.Brackets.{low_of, high_of, Holds}
 use Rattle.bloom_parts.specs.FalsePositives.{BoundsEither}
 use Rattle.bloom_parts.proofs.PublishedLemmas.{content-zeros}
@@ -60,7 +60,7 @@ rotating-none kind r some older newer taken turns = record {
 }
 
 module _ {S : Type 0} (kind : Kind) (old : Rotating S) (is : IsRotating kind old) (hash : ℕ)
-    (filled : Filter S) (did : InsertsIn kind old.newer hash filled false) where
+    (filled : Filter S) (did : Inserts (placement_of kind) old.newer hash filled false) where
   one-more : Took kind old.setup [] (old.taken + 1) filled
   one-more = took-next kind old.setup [] old.taken old.newer filled hash is.newer refl did
 

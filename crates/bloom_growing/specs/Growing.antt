@@ -9,8 +9,8 @@ use Rattle.bloom_parts.specs.declared.math.rate.Rate.{Rate}
 use Rattle.bloom_parts.specs.Keys.{HasKey}
 use Rattle.bloom_parts.specs.Rates.{num_of, den_of}
 use Rattle.bloom_plain.specs.Builders.{RateStart}
-use Rattle.bloom_plain.specs.Filter.{Filter}
-use Rattle.bloom_growing.specs.Kinds.{Kind, contains_in, InsertsNew, IsMadeIn}
+use Rattle.bloom_plain.specs.Filter.{Filter, contains}
+use Rattle.bloom_growing.specs.Kinds.{Kind, InsertsNew, IsMadeIn, placement_of}
 
 -- what was asked for: a rate, which the rates that the filters are sized for stay below together,
 -- the room of the first filter, which is the number of items that it is made for, and the hasher of
@@ -74,11 +74,11 @@ pub record IsMadeAs {S : Type 0} (kind : Kind) (setup : Setup S) (i : ℕ) (made
 
 -- whether one of some filters contains a hash
 abbrev pub any_contains : {S : Type 0} → Kind → List (Filter S) → ℕ → Bool
-any_contains kind filters hash = list_any (λ f. contains_in kind f hash) filters
+any_contains kind filters hash = list_any (λ f. contains (placement_of kind) f hash) filters
 
 -- whether a filter that grows contains a hash
 abbrev pub has : {S : Type 0} → Kind → Growing S → ℕ → Bool
-has kind g hash = list_any (λ f. contains_in kind f hash) (g.older ++ g.newest ∷ [])
+has kind g hash = list_any (λ f. contains (placement_of kind) f hash) (g.older ++ g.newest ∷ [])
 
 -- a filter was made as the next behind these older ones, and then took this many hashes. None of
 -- them was contained in it, or in an older one, when it came

@@ -10,7 +10,8 @@ use Rattle.bloom_plain.specs.Builders.{RefusesAs}
 use Rattle.bloom_growing.specs.declared.growing.error.GrowingError.{GrowingError}
 use Rattle.bloom_growing.specs.declared.growing.error.GrowingError.TheVariants.{RateOverflow, TooManyItems, Filter}
 use Rattle.bloom_growing.specs.Growing.{Setup, Growing, IsNumber, room_at, den_at, newest_room, has}
-use Rattle.bloom_growing.specs.Kinds.{Kind, InsertsIn, IsSizeIn, size_refusal_in}
+use Rattle.bloom_plain.specs.Filter.{Inserts}
+use Rattle.bloom_growing.specs.Kinds.{Kind, IsSizeIn, size_refusal_in, placement_of}
 
 -- a filter that grows is new: this was asked for, and its one filter is empty
 pub record IsBegun {S : Type 0} (kind : Kind) (asked : Setup S) (g : Growing S) : Type 0 where
@@ -31,7 +32,7 @@ pub record Adds {S : Type 0} (kind : Kind) (old : Growing S) (hash : ℕ) (new :
   where
     pub setup : new.setup ≡ old.setup
     pub older : new.older ≡ old.older
-    pub newest : InsertsIn kind old.newest hash new.newest false
+    pub newest : Inserts (placement_of kind) old.newest hash new.newest false
     pub taken : new.taken ≡ old.taken + 1
 
 -- an insert took the old filters to the new: the reply is whether one of them contained the hash.

@@ -4,7 +4,7 @@ use Rattle.std.specs.Prelude.{◌≡◌, ℕ, Bool, false, List, [], ◌∷◌, 
 use Rattle.bloom_parts.specs.declared.error.FilterError.{FilterError}
 use Rattle.bloom_parts.specs.Sizing.{IsSizeFor}
 use Rattle.bloom_plain.specs.Builders.{RateStart, IsMadeFor, size_refusal}
-use Rattle.bloom_plain.specs.Filter.{Filter, Placement, anywhere, contains_by, InsertsBy}
+use Rattle.bloom_plain.specs.Filter.{Filter, Placement, anywhere, Inserts}
 use Rattle.bloom_blocked.specs.Blocked.{in_lines}
 use Rattle.bloom_blocked.specs.BlockedSizing.{IsSizeInLines, IsMadeInLinesFor, line_size_refusal}
 
@@ -18,20 +18,13 @@ abbrev pub placement_of : Kind → Placement
 placement_of Plain = anywhere
 placement_of Blocked = in_lines
 
--- whether a filter contains a hash
-abbrev pub contains_in : {S : Type 0} → Kind → Filter S → ℕ → Bool
-contains_in kind f hash = contains_by (placement_of kind) f hash
-
--- an insert took the old filter to the new, with this reply
-abbrev pub InsertsIn : {S : Type 0} → Kind → Filter S → ℕ → Filter S → Bool → Type 0
-InsertsIn kind old hash new reply = InsertsBy (placement_of kind) old hash new reply
-
 -- from old to new the hashes of a list were inserted, in order. None of them was contained when it
 -- came
 abbrev pub InsertsNew : {S : Type 0} → Kind → Filter S → List ℕ → Filter S → Type 0
 InsertsNew kind old [] new = new ≡ old
 InsertsNew {S} kind old (hash ∷ later) new =
-    (next : Filter S) × InsertsIn kind old hash next false × InsertsNew kind next later new
+    (next : Filter S) × Inserts (placement_of kind) old hash next false
+    × InsertsNew kind next later new
 
 -- this is the number of bits for items and the rate num / den
 abbrev pub IsSizeIn : Kind → ℕ → ℕ → ℕ → ℕ → Type 0

@@ -2,10 +2,10 @@
 -- contain, and becomes the older one once it took as many hashes as it is for, as in M. Yoon,
 -- "Aging Bloom Filter with Two Active Buffers for Dynamic Sets", 2010.
 use Rattle.std.specs.Prelude.{◌≡◌, ℕ, ◌+◌, ◌-◌, ◌^◌, ◌<◌, ◌≤◌, min, Bool, true, false, ◌||◌, List, [], ◌∷◌, nat_eq, if◌then◌else◌}
-use Rattle.bloom_plain.specs.Filter.{Filter, Clears}
+use Rattle.bloom_plain.specs.Filter.{Filter, Clears, contains, Inserts}
 use Rattle.bloom_growing.specs.Growing.{Setup, IsNumber, Took}
 use Rattle.bloom_growing.specs.GrowingRates.{Part, part_now, part_after}
-use Rattle.bloom_growing.specs.Kinds.{Kind, contains_in, InsertsIn}
+use Rattle.bloom_growing.specs.Kinds.{Kind, placement_of}
 
 -- a filter that rotates: what was asked for (the rate of both filters together, the number of items
 -- that each is for, and the hasher), its two filters, how many new hashes the newer one took, and
@@ -23,7 +23,8 @@ older_taken r = if nat_eq r.turns 0 then 0 else r.setup.room
 
 -- whether one of both filters contains a hash
 abbrev pub either_contains : {S : Type 0} → Kind → Rotating S → ℕ → Bool
-either_contains kind r hash = contains_in kind r.newer hash || contains_in kind r.older hash
+either_contains kind r hash =
+    contains (placement_of kind) r.newer hash || contains (placement_of kind) r.older hash
 
 -- the rule of a filter that rotates: the newer filter has room, and each filter is the builders'
 -- for these items at half the rate, with hashes inserted, each of which it didn't contain when it
@@ -45,7 +46,7 @@ pub record IsUnused {S : Type 0} (kind : Kind) (asked : Setup S) (r : Rotating S
 pub record Fills {S : Type 0} (kind : Kind) (old : Rotating S) (hash : ℕ) (new : Rotating S)
     : Type 0 where
   pub older : new.older ≡ old.older
-  pub newer : InsertsIn kind old.newer hash new.newer false
+  pub newer : Inserts (placement_of kind) old.newer hash new.newer false
   pub taken : new.taken ≡ old.taken + 1
   pub turns : new.turns ≡ old.turns
 
@@ -53,7 +54,7 @@ pub record Fills {S : Type 0} (kind : Kind) (old : Rotating S) (hash : ℕ) (new
 -- one was cleared. Turns are counted up to 2^64 - 1
 pub record Turns {S : Type 0} (kind : Kind) (old : Rotating S) (hash : ℕ) (new : Rotating S)
     : Type 0 where
-  pub older : InsertsIn kind old.newer hash new.older false
+  pub older : Inserts (placement_of kind) old.newer hash new.older false
   pub newer : Clears old.older new.newer
   pub taken : new.taken ≡ 0
   pub turns : new.turns ≡ min (old.turns + 1) (2 ^ 64 - 1)
@@ -65,10 +66,10 @@ pub record Receives {S : Type 0} (kind : Kind) (old : Rotating S) (hash : ℕ) (
     (reply : Bool) : Type 0 where
   pub answers : reply ≡ either_contains kind old hash
   pub setup : new.setup ≡ old.setup
-  pub held : contains_in kind old.newer hash ≡ true → new ≡ old
-  pub fills : contains_in kind old.newer hash ≡ false → old.taken + 1 < old.setup.room
+  pub held : contains (placement_of kind) old.newer hash ≡ true → new ≡ old
+  pub fills : contains (placement_of kind) old.newer hash ≡ false → old.taken + 1 < old.setup.room
       → Fills kind old hash new
-  pub turns : contains_in kind old.newer hash ≡ false → old.setup.room ≤ old.taken + 1
+  pub turns : contains (placement_of kind) old.newer hash ≡ false → old.setup.room ≤ old.taken + 1
       → Turns kind old hash new
 
 -- from old to new the hashes of a list came, in order

@@ -5,9 +5,9 @@ ghost use Rattle.bloom_parts.specs.Content.{AreWords};
 ghost use Rattle.bloom_parts.specs.Rates.{num_of, den_of};
 ghost use Rattle.bloom_plain.specs.Builders.{RefusesAs};
 ghost use Rattle.bloom_plain.specs.Data.{DefaultFilter};
-ghost use Rattle.bloom_plain.specs.Filter.{Clears};
+ghost use Rattle.bloom_plain.specs.Filter.{Clears, contains, Inserts};
 ghost use Rattle.bloom_growing.specs.Growing.{rate_start};
-ghost use Rattle.bloom_growing.specs.Kinds.{Kind, InsertsIn, IsMadeIn, IsSizeIn, contains_in, size_refusal_in};
+ghost use Rattle.bloom_growing.specs.Kinds.{Kind, IsMadeIn, IsSizeIn, size_refusal_in, placement_of};
 
 mod blocked;
 mod plain;
@@ -45,12 +45,12 @@ pub trait GrowableFilter: Drop {
 
     /// Inserts a hash, and returns whether it was contained. If so, the filter stays as it was.
     fn insert_once(&mut self, hash: u64) -> bool
-        ensures inserts { InsertsIn kind (seen self.old) hash (seen self.new) result }
+        ensures inserts { Inserts (placement_of kind) (seen self.old) hash (seen self.new) result }
         ensures held { result ≡ true → seen self.new ≡ seen self.old };
 
     /// Whether a hash is contained.
     fn contains_hash(&self, hash: u64) -> bool
-        ensures { result ≡ contains_in kind (seen self.now) hash };
+        ensures { result ≡ contains (placement_of kind) (seen self.now) hash };
 
     /// Whether it is so large that hashes are better looked up together before each is inserted.
     fn looks_ahead(&self) -> bool;

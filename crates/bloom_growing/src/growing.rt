@@ -6,7 +6,8 @@ ghost use Rattle.std.specs.Int.{w128, to_be_bytes};
 ghost use Rattle.bloom_parts.specs.Keys.{HasKey, key_low, key_high};
 ghost use Rattle.bloom_growing.specs.Growing.{setup_of, IsKeyed, any_contains, has, newest_room};
 ghost use Rattle.bloom_growing.specs.GrowingInserts.{IsBegun, BeginsNext, Adds, Accepts, RefusesNumber, RefusesInsert};
-ghost use Rattle.bloom_growing.specs.Kinds.{contains_in};
+ghost use Rattle.bloom_plain.specs.Filter.{contains};
+ghost use Rattle.bloom_growing.specs.Kinds.{placement_of};
 
 mod error;
 pub(crate) mod filters;
@@ -146,7 +147,7 @@ impl<F: GrowableFilter> GrowingFilterOf<F> {
         requires full { newest_room self.old ≤ self.old.taken }
         ensures begins { IfOk result (λ _. BeginsNext F.kind self.old self.new) }
         ensures new { IfOk result
-            (λ _. (hash : ℕ) → contains_in F.kind self.new.newest hash ≡ false) }
+            (λ _. (hash : ℕ) → contains (placement_of F.kind) self.new.newest hash ≡ false) }
         ensures room { IfOk result (λ _. self.new.taken < newest_room self.new) }
         ensures unchanged { OnErr result (self.new ≡ self.old) }
         ensures refused { RefusesNumber F.kind self.old.setup.rate self.old.setup.room
@@ -169,7 +170,7 @@ impl<F: GrowableFilter> GrowingFilterOf<F> {
     fn add(&mut self, hash: u64) -> bool
         requires new { any_contains F.kind self.old.older hash ≡ false }
         requires room { self.old.taken < newest_room self.old }
-        ensures reply { result ≡ contains_in F.kind self.old.newest hash }
+        ensures reply { result ≡ contains (placement_of F.kind) self.old.newest hash }
         ensures held { result ≡ true → self.new ≡ self.old }
         ensures adds { result ≡ false → Adds F.kind self.old hash self.new }
     {

@@ -7,7 +7,7 @@ use Rattle.bloom_parts.specs.declared.hasher.CloneBuildHasher.{CloneBuildHasher}
 use Rattle.bloom_parts.specs.declared.hasher.sip.RandomDefaultHasher.{RandomDefaultHasher}
 use Rattle.bloom_parts.specs.Keys.{HasKey, key_of}
 use Rattle.bloom_plain.specs.Data.{DataLaw, DefaultFilter, IsDataOf, SameItemsLaw, data_refusal}
-use Rattle.bloom_plain.specs.Filter.{contains}
+use Rattle.bloom_plain.specs.Filter.{contains, anywhere}
 use Rattle.bloom_plain.specs.declared.bloom.data.FilterData.{FilterData}
 
 -- how many words a form has, and its number of hashes less one
@@ -72,7 +72,7 @@ module _ (form : FilterData) (f : DefaultFilter) (is : IsFive form) where
 from_data : DataLaw → (form : FilterData) (f g : DefaultFilter) → IsFive form
     → IsFilter f 5 2 0 3026418949592973312 → IsFilter g 5 2 0 3026418949592973312
     → (g.words ≡ f.words) × (g.hashes ≡ f.hashes) × (key_of g.hasher ≡ key_of f.hasher)
-    × ((hash : ℕ) → contains g hash ≡ contains f hash)
+    × ((hash : ℕ) → contains anywhere g hash ≡ contains anywhere f hash)
 from_data law form f g is of of' =
     let alike =
     law f g form ((is_data_of-cases form f is).0 of) ((is_data_of-cases form g is).0 of') in

@@ -4,11 +4,11 @@ use Rattle.bloom_plain.proofs.Common.{content, Placement, anywhere}
 use Rattle.bloom_parts.specs.Keys.{HasKey, key_of}
 use Rattle.bloom_parts.specs.declared.hasher.CloneBuildHasher.{CloneBuildHasher}
 use Rattle.bloom_parts.specs.declared.hasher.sip.RandomDefaultHasher.{RandomDefaultHasher}
-use Rattle.bloom_plain.specs.Data.{AnswerAlikeBy, DataLaw, DefaultFilter, SameItemsLaw}
+use Rattle.bloom_plain.specs.Data.{AnswerAlike, DataLaw, DefaultFilter, SameItemsLaw}
 
 -- filters of equal words, numbers of hashes and keys answer alike
 pub alike-parts : (at : Placement) (f g : DefaultFilter) → g.words ≡ f.words
-    → g.hashes ≡ f.hashes → key_of g.hasher ≡ key_of f.hasher → AnswerAlikeBy at f g
+    → g.hashes ≡ f.hashes → key_of g.hasher ≡ key_of f.hasher → AnswerAlike at f g
 alike-parts at f g words hashes key = record {
   words = words;
   hashes = hashes;

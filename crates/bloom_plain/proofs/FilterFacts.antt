@@ -2,7 +2,7 @@
 -- definition that public clauses cite a case that holds and cases as near as can be that don't.
 -- Hash 1 has the positions 0, 20 and 32 among 64 bits, so that its first two make the word 1048577.
 use Rattle.std.proofs.Common.{◌≡◌, ℕ, true, false, List, [], ◌∷◌, refl, arith, lit<, lit≤}
-use Rattle.bloom_plain.proofs.Common.{chain, content, are_in}
+use Rattle.bloom_plain.proofs.Common.{chain, content, are_in, anywhere}
 use Rattle.bloom_parts.specs.Counts.{count_on}
 use Rattle.bloom_plain.specs.Filter.{Filter, num_bits_of, IsShape, HasShape, SameShape, contains, same_filter}
 use Rattle.bloom_plain.specs.Ones.{ones_of, ones_of_either}
@@ -61,11 +61,12 @@ same_shape-cases = (
 )
 
 -- hash 1 is contained where all its positions are set, be they two in one word or three in two
-contains-cases : (contains (one_word 1048577) 1 ≡ true) × (contains (one_word 1) 1 ≡ false)
-    × (contains (one_word 1048576) 1 ≡ false)
-    × (contains (filter (1048577 ∷ []) 3 7) 1 ≡ false)
-    × (contains (filter (1099511627777 ∷ 1 ∷ []) 3 7) 1 ≡ true)
-    × (contains (filter (1099511627777 ∷ 0 ∷ []) 3 7) 1 ≡ false)
+contains-cases : (contains anywhere (one_word 1048577) 1 ≡ true)
+    × (contains anywhere (one_word 1) 1 ≡ false)
+    × (contains anywhere (one_word 1048576) 1 ≡ false)
+    × (contains anywhere (filter (1048577 ∷ []) 3 7) 1 ≡ false)
+    × (contains anywhere (filter (1099511627777 ∷ 1 ∷ []) 3 7) 1 ≡ true)
+    × (contains anywhere (filter (1099511627777 ∷ 0 ∷ []) 3 7) 1 ≡ false)
 unfolding content chain are_in
 contains-cases = (refl, refl, refl, refl, refl, refl)
 

@@ -89,21 +89,21 @@ found_after_replay_law S old new earlier later hash given did all =
     found_law S old new (map operation_of earlier) (map operation_of later) hash given
     (subst (λ os. CarriesOut old os new given)
     (map-append operation_of earlier (command.Insert hash ∷ later)) did)
-    (All-map (Spares (positions_of old hash)) operation_of later all)
+    (All-map (Spares (positions_of anywhere old hash)) operation_of later all)
 
 -- a list of inserts is a list of operations
 pub found_after_inserts_law : (S : Type 0) → FoundAfterInsertsLaw S
 found_after_inserts_law S old new earlier later hash did =
     found_law S old new (map Insert earlier) (map Insert later) hash did.0
     (subst (λ os. CarriesOut old os new did.0) (map-append Insert earlier (hash ∷ later)) did.1)
-    (all_spare (positions_of old hash) later)
+    (all_spare (positions_of anywhere old hash) later)
 
 -- each position was set, and nothing clears it
 pub kept_by_list_law : (S : Type 0) → KeptByListLaw S
 kept_by_list_law S old new operations hash given did all found =
     let n = num_bits_of old in
     let k = old.hashes in
-    let P = positions_of old hash in
+    let P = positions_of anywhere old hash in
     let part : IsPart P (content old.words) = part-from n k hash (content old.words) found in
     contains-shape anywhere old new hash did.shape
     ∙ part-to n k hash (content new.words) (λ p is. did.bits p
@@ -113,4 +113,4 @@ kept_by_list_law S old new operations hash given did all found =
 pub kept_by_inserts_law : (S : Type 0) → KeptByInsertsLaw S
 kept_by_inserts_law S old new hashes hash did =
     kept_by_list_law S old new (map Insert hashes) hash did.0 did.1
-    (all_spare (positions_of old hash) hashes)
+    (all_spare (positions_of anywhere old hash) hashes)

@@ -2,16 +2,16 @@
 -- cite a case that holds and cases as near as can be that don't. Among 64 bits and with two hashes,
 -- hash 0 has position 0 alone, and hash 1 has the positions 0 and 20.
 use Rattle.std.proofs.Common.{◌≡◌, ◌-◌, ◌<◌, ◌^◌, ℕ, Bool, true, false, ◌||◌, [], ◌∷◌, refl, ap, ◌∙◌, arith, lit<}
-use Rattle.bloom_plain.proofs.Common.{chain, content, Insert, state_after, positions, are_in, contains, Inserts, InsertsAll, InsertsItems}
+use Rattle.bloom_plain.proofs.Common.{chain, content, Insert, state_after, positions, are_in, contains, Inserts, InsertsAll, InsertsItems, anywhere}
 use Rattle.bloom_plain.proofs.CaseLemmas.{alike_below, content-case, content-past, positions-past}
 use Rattle.bloom_plain.proofs.FilterFacts.{filter, one_word}
 
 -- a hash is inserted into one word, where the words agree bit by bit
 pub inserts-word : (old new k hash : ℕ) (reply : Bool) → hash < 2 ^ 64
-    → reply ≡ contains (filter (old ∷ []) k 7) hash
+    → reply ≡ contains anywhere (filter (old ∷ []) k 7) hash
     → alike_below 64 (content (new ∷ [])) (λ p. content (old ∷ []) p || positions 64 k hash p)
     ≡ true
-    → Inserts (filter (old ∷ []) k 7) hash (filter (new ∷ []) k 7) reply
+    → Inserts anywhere (filter (old ∷ []) k 7) hash (filter (new ∷ []) k 7) reply
 inserts-word old new k hash reply fits answers alike = record {
   answers = answers;
   bits = content-case (new ∷ []) (λ p. content (old ∷ []) p || positions 64 k hash p) alike
@@ -22,29 +22,29 @@ inserts-word old new k hash reply fits answers alike = record {
 }
 
 -- an insert of hash 1 into a zero word sets its two positions
-pub inserts-first : Inserts (one_word 0) 1 (one_word 1048577) false
+pub inserts-first : Inserts anywhere (one_word 0) 1 (one_word 1048577) false
 unfolding content positions chain are_in
 inserts-first = inserts-word 0 1048577 2 1 false (lit< tt) refl refl
 
 -- an insert of hash 1 into a word that has its first position sets the second
-pub inserts-rest : Inserts (one_word 1) 1 (one_word 1048577) false
+pub inserts-rest : Inserts anywhere (one_word 1) 1 (one_word 1048577) false
 unfolding content positions chain are_in
 inserts-rest = inserts-word 1 1048577 2 1 false (lit< tt) refl refl
 
 -- an insert of hash 0 sets position 0, which it has twice
-pub inserts-zero : Inserts (one_word 0) 0 (one_word 1) false
+pub inserts-zero : Inserts anywhere (one_word 0) 0 (one_word 1) false
 unfolding content positions chain are_in
 inserts-zero = inserts-word 0 1 2 0 false (lit< tt) refl refl
 
 -- a hash that was contained is told so, and one that wasn't isn't; no position of the hash stays
 -- clear, none beside them is set or cleared, and shape and hasher stay
-inserts-cases : Inserts (one_word 1048577) 1 (one_word 1048577) true
-    × (Inserts (one_word 0) 1 (one_word 1048577) true → ⊥)
-    × (Inserts (one_word 0) 1 (one_word 1) false → ⊥)
-    × (Inserts (one_word 0) 1 (one_word 1048585) false → ⊥)
-    × (Inserts (one_word 8) 1 (one_word 1048577) false → ⊥)
-    × (Inserts (one_word 0) 1 (filter (1048577 ∷ 0 ∷ []) 2 7) false → ⊥)
-    × (Inserts (one_word 0) 1 (filter (1048577 ∷ []) 2 8) false → ⊥)
+inserts-cases : Inserts anywhere (one_word 1048577) 1 (one_word 1048577) true
+    × (Inserts anywhere (one_word 0) 1 (one_word 1048577) true → ⊥)
+    × (Inserts anywhere (one_word 0) 1 (one_word 1) false → ⊥)
+    × (Inserts anywhere (one_word 0) 1 (one_word 1048585) false → ⊥)
+    × (Inserts anywhere (one_word 8) 1 (one_word 1048577) false → ⊥)
+    × (Inserts anywhere (one_word 0) 1 (filter (1048577 ∷ 0 ∷ []) 2 7) false → ⊥)
+    × (Inserts anywhere (one_word 0) 1 (filter (1048577 ∷ []) 2 8) false → ⊥)
 unfolding content positions chain are_in
 inserts-cases = (
   inserts-word 1048577 1048577 2 1 true (lit< tt) refl refl,

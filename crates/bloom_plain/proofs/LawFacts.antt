@@ -20,27 +20,27 @@ abbrev at_two : ℕ
 at_two = 576460752303423488
 
 -- hash 0 is contained where position 0 is set
-zero-found : contains (one_word 1) 0 ≡ true
+zero-found : contains anywhere (one_word 1) 0 ≡ true
 unfolding content chain are_in
 zero-found = refl
 
 -- an insert of hash 1 answers what was found before, and afterwards the hash is contained
 from_insert : InsertLaw anywhere ℕ
-    → (false ≡ contains (one_word 1) 1) × (contains (one_word 1048577) 1 ≡ true)
+    → (false ≡ contains anywhere (one_word 1) 1) × (contains anywhere (one_word 1048577) 1 ≡ true)
 from_insert law = law (one_word 1) (one_word 1048577) 1 false inserts-rest
 
 -- an insert of hash 1 keeps hash 0 contained
-from_kept_by_insert : KeptByInsertLaw anywhere ℕ → contains (one_word 1048577) 0 ≡ true
+from_kept_by_insert : KeptByInsertLaw anywhere ℕ → contains anywhere (one_word 1048577) 0 ≡ true
 from_kept_by_insert law = law (one_word 1) (one_word 1048577) 1 0 false inserts-rest zero-found
 
 -- and so does a list of that insert
-from_kept_by_inserts : KeptByInsertsLaw ℕ → contains (one_word 1048577) 0 ≡ true
+from_kept_by_inserts : KeptByInsertsLaw ℕ → contains anywhere (one_word 1048577) 0 ≡ true
 from_kept_by_inserts law =
     law (one_word 1) (one_word 1048577) (1 ∷ []) 0
     (false ∷ [], carries_out-insert (one_word 1) 1 (one_word 1048577) false inserts-rest) zero-found
 
 -- a union of 5 with 6 keeps hash 0 contained, which 6 doesn't contain
-from_kept_by_union : KeptByUnionLaw anywhere ℕ → contains (one_word 7) 0 ≡ true
+from_kept_by_union : KeptByUnionLaw anywhere ℕ → contains anywhere (one_word 7) 0 ≡ true
 unfolding content chain are_in
 from_kept_by_union law = law (one_word 5) set.six (one_word 7) 0 set.unites-cases.0 refl
 
@@ -50,7 +50,7 @@ unfolding content positions chain
 spares-two p is = ap (content (6 ∷ [])) (eqb-true p 2 is)
 
 -- a list of four commands, of which one intersects with 6, keeps a hash of position 2 contained
-from_kept_by_list : KeptByListLaw ℕ → contains (one_hash 13) at_two ≡ true
+from_kept_by_list : KeptByListLaw ℕ → contains anywhere (one_hash 13) at_two ≡ true
 unfolding content positions chain are_in
 from_kept_by_list law =
     law (one_hash 5) (one_hash 13) (map operation_of commands) at_two (false ∷ true ∷ [])
@@ -60,14 +60,15 @@ from_kept_by_list law =
 
 -- the intersection of 5 and 6 contains hash 0 exactly if both do
 from_intersection : IntersectionLaw anywhere ℕ
-    → contains (one_word 4) 0 ≡ (contains (one_word 5) 0 && contains set.six 0)
+    → contains anywhere (one_word 4) 0
+      ≡ (contains anywhere (one_word 5) 0 && contains anywhere set.six 0)
 from_intersection law =
     law (one_word 5) set.six (one_word 4) 0 (record { words = refl; hashes = refl })
     set.intersects-cases.0
 
 -- a union contains hash 0, which the first filter contained or the other
-from_union : UnionLaw anywhere ℕ → (contains (one_word 7) 0 ≡ true)
-    × (contains (filter (7 ∷ []) 2 8) 0 ≡ true)
+from_union : UnionLaw anywhere ℕ → (contains anywhere (one_word 7) 0 ≡ true)
+    × (contains anywhere (filter (7 ∷ []) 2 8) 0 ≡ true)
 unfolding content chain are_in
 from_union law = (
   law (one_word 5) set.six (one_word 7) 0 (record { words = refl; hashes = refl })
@@ -77,7 +78,7 @@ from_union law = (
 )
 
 -- a cleared filter doesn't contain hash 1
-from_clear : ClearLaw anywhere ℕ → contains (one_word 0) 1 ≡ false
+from_clear : ClearLaw anywhere ℕ → contains anywhere (one_word 0) 1 ≡ false
 from_clear law = law (one_word 5) (one_word 0) 1 (lit≤ tt) set.clears
 
 -- an insert of hash 0 and a look-up of it make one list
@@ -89,7 +90,7 @@ from_joined law =
     (carries_out-contains (one_word 1) 0 true (sym zero-found))
 
 -- hash 0 is found that was inserted after an intersection and before a union
-from_found : FoundLaw ℕ → contains (one_hash 13) 0 ≡ true
+from_found : FoundLaw ℕ → contains anywhere (one_hash 13) 0 ≡ true
 from_found law =
     law (one_hash 5) (one_hash 13) (Intersect (content (6 ∷ [])) ∷ [])
     (Union (content (8 ∷ [])) ∷ Contains 0 ∷ []) 0 (false ∷ true ∷ []) carried_out
@@ -97,7 +98,7 @@ from_found law =
     (tt, (tt, tt)))
 
 -- and so it is after `replay`
-from_found_after_replay : FoundAfterReplayLaw ℕ → contains (one_hash 13) 0 ≡ true
+from_found_after_replay : FoundAfterReplayLaw ℕ → contains anywhere (one_hash 13) 0 ≡ true
 from_found_after_replay law =
     law (one_hash 5) (one_hash 13) (command.Intersect six ∷ [])
     (command.Union eight ∷ command.Contains 0 ∷ []) 0 (false ∷ true ∷ []) carried_out
@@ -105,8 +106,8 @@ from_found_after_replay law =
     (command.Union eight ∷ command.Contains 0 ∷ []) (tt, (tt, tt)))
 
 -- the first and the last of two inserted hashes are contained after both
-from_found_after_inserts : FoundAfterInsertsLaw ℕ → (contains (one_word 1048577) 1 ≡ true)
-    × (contains (one_word 1048577) 0 ≡ true)
+from_found_after_inserts : FoundAfterInsertsLaw ℕ → (contains anywhere (one_word 1048577) 1 ≡ true)
+    × (contains anywhere (one_word 1048577) 0 ≡ true)
 from_found_after_inserts law = (
   law (one_word 0) (one_word 1048577) [] (0 ∷ []) 1 inserts_all,
   law (one_word 0) (one_word 1048577) (1 ∷ []) [] 0 inserts_all,
@@ -124,7 +125,8 @@ from_united_inserts law =
 
 -- what is made of the parts of a filter of no hashes or one equals it and answers alike
 from_rebuilt : RebuiltLaw ℕ → (made : Filter ℕ) → Rebuilds (one_word 5) made
-    → (made ≡ one_word 5) × ((hash : ℕ) → contains made hash ≡ contains (one_word 5) hash)
+    → (made ≡ one_word 5)
+      × ((hash : ℕ) → contains anywhere made hash ≡ contains anywhere (one_word 5) hash)
 from_rebuilt law made did = law (one_word 5) made (shape 5) did
 
 -- a filter equals one of word 5 and two hashes exactly if it has these, whatever its hasher

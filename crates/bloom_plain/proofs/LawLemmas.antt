@@ -5,7 +5,7 @@ use Rattle.std.specs.Cmp.Lexicographic.{pointwise, same_text, nat_list_eq_equiv}
 use Rattle.std.proofs.lemmas.Bool.{or_cases, or_left, or_right, and_parts, and_from, eqb-true, eq-eqb, both_ways, false_from_ne_true}
 use Rattle.bloom_parts.specs.Content.{content, EqualWordsLaw}
 use Rattle.bloom_parts.specs.Places.{place, IsPart}
-use Rattle.bloom_plain.specs.Filter.{Filter, SameShape, Placement, anywhere, contains, contains_by, positions_by, InsertsBy}
+use Rattle.bloom_plain.specs.Filter.{Filter, SameShape, Placement, anywhere, contains, positions_of, Inserts}
 use Rattle.bloom_plain.specs.Laws.{InsertLaw, KeptByInsertLaw, KeptByUnionLaw, IntersectionLaw, UnionLaw, ClearLaw, RebuiltLaw, EqualityLaw, EqualContentLaw}
 use Rattle.bloom_parts.proofs.PublishedLemmas.{adds-nothing, part-from, part-to, place-position, position-to}
 
@@ -28,7 +28,7 @@ anywhere-lawful = record {
 -- a look-up in a filter of the same shape is the look-up with the first filter's numbers
 pub contains-shape : {S : Type 0} (at : Placement) (old new : Filter S) (hash : ℕ)
     → SameShape old new
-    → contains_by at new hash ≡ at.are_in (length old.words) old.hashes hash (content new.words)
+    → contains at new hash ≡ at.are_in (length old.words) old.hashes hash (content new.words)
 contains-shape at old new hash same =
     ap (λ w. at.are_in w new.hashes hash (content new.words)) (sym same.words)
     ∙ ap (λ k. at.are_in (length old.words) k hash (content new.words)) (sym same.hashes)
@@ -36,40 +36,40 @@ contains-shape at old new hash same =
 module _ (at : Placement) (lawful : IsLawful at) where
   -- what contains the positions of a hash contains the hash
   contains-part : {S : Type 0} (old new : Filter S) (hash : ℕ) → SameShape old new
-      → IsPart (positions_by at old hash) (content new.words) → contains_by at new hash ≡ true
+      → IsPart (positions_of at old hash) (content new.words) → contains at new hash ≡ true
   contains-part old new hash same part =
       contains-shape at old new hash same
       ∙ (lawful.subset (length old.words) old.hashes hash (content new.words)).1 part
 
   -- and it has them where it does
-  part-of : {S : Type 0} (f : Filter S) (hash : ℕ) → contains_by at f hash ≡ true
-      → IsPart (positions_by at f hash) (content f.words)
+  part-of : {S : Type 0} (f : Filter S) (hash : ℕ) → contains at f hash ≡ true
+      → IsPart (positions_of at f hash) (content f.words)
   part-of f hash = (lawful.subset (length f.words) f.hashes hash (content f.words)).0
 
   -- the greater of two filters of one shape contains what the other does
   pub contains-greater : {S : Type 0} (old new : Filter S) (hash : ℕ) → SameShape old new
       → IsPart (content old.words) (content new.words)
-      → contains_by at old hash ≡ true → contains_by at new hash ≡ true
+      → contains at old hash ≡ true → contains at new hash ≡ true
   contains-greater old new hash same part found =
       contains-part old new hash same (λ p is. part p (part-of old hash found p is))
 
   -- an insert of a hash that is contained changes nothing
   pub contained-insert : {S : Type 0} (old : Filter S) (hash : ℕ)
-      → contains_by at old hash ≡ true → InsertsBy at old hash old true
+      → contains at old hash ≡ true → Inserts at old hash old true
   contained-insert old hash is = record {
     answers = sym is;
     bits = λ p.
-        adds-nothing (content old.words p) (positions_by at old hash p) (part-of old hash is p);
+        adds-nothing (content old.words p) (positions_of at old hash p) (part-of old hash is p);
     shape = record { words = refl; hashes = refl };
     hasher = refl;
   }
 
   -- where no position is set, no hash is contained
   pub contains-none : {S : Type 0} (f : Filter S) (hash : ℕ) → 1 ≤ f.hashes
-      → ((p : ℕ) → content f.words p ≡ false) → contains_by at f hash ≡ false
+      → ((p : ℕ) → content f.words p ≡ false) → contains at f hash ≡ false
   contains-none f hash some none =
       let first = lawful.some (length f.words) f.hashes hash some in
-      false_from_ne_true (contains_by at f hash)
+      false_from_ne_true (contains at f hash)
       (λ all. both_ways (content f.words first.0) (none first.0)
       (part-of f hash all first.0 first.1))
 
@@ -116,12 +116,12 @@ module _ (at : Placement) (lawful : IsLawful at) where
         contains-shape at old new hash did.shape
         ∙ ap (at.are_in (length old.words) old.hashes hash) (λ i p. did.bits p i)
         ∙ are_in-both (length old.words) old.hashes hash (content old.words) (content other.words)
-        ∙ ap (λ b. contains_by at old hash && b) (sym (contains-shape at old other hash same))
+        ∙ ap (λ b. contains at old hash && b) (sym (contains-shape at old other hash same))
 
     -- the content after a union is greater than either
     pub union_law : UnionLaw at S
     union_law old other new hash same did either =
-        elim (or_cases (contains_by at old hash) (contains_by at other hash) either) [
+        elim (or_cases (contains at old hash) (contains at other hash) either) [
           | inl found ↦ kept_by_union_law old other new hash did found
           | inr found ↦
               contains-greater other new hash
@@ -144,7 +144,7 @@ rebuilt_law S f made shape did =
     let same_hashes : made.hashes ≡ f.hashes = did.hashes ∙ omega arith in
     let same : made ≡ f =
     λ i. record { words = did.words i; hashes = same_hashes i; hasher = did.hasher i } in
-    (same, (λ hash. ap (λ g. contains g hash) same))
+    (same, (λ hash. ap (λ g. contains anywhere g hash) same))
 
 -- words are compared one by one, and numbers of hashes as numbers
 pub equality_law : (S : Type 0) → EqualityLaw S

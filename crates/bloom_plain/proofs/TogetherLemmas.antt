@@ -2,7 +2,7 @@
 use Rattle.std.proofs.Common.{◌≡◌, ℕ, Bool, ◌||◌, List, [], ◌∷◌, map, refl, sym, ◌∙◌, ap}
 use Rattle.std.proofs.Math.Bool.{or-false, or_assoc}
 use Rattle.std.specs.List.{list_any}
-use Rattle.bloom_plain.proofs.Common.{content, Insert, decides, positions, Filter, SameShape, positions_of, num_bits_of, InsertsAll, replies}
+use Rattle.bloom_plain.proofs.Common.{content, Insert, decides, positions, Filter, SameShape, positions_of, num_bits_of, InsertsAll, replies, anywhere}
 use Rattle.bloom_parts.specs.Deciders.{makes_on, state}
 use Rattle.bloom_parts.proofs.PublishedLemmas.{state-append}
 use Rattle.bloom_plain.proofs.ReplyLemmas.{or-makes_on}
@@ -22,7 +22,7 @@ state-inserts n k A (h ∷ hashes) p =
 -- where the positions of all hashes of a list were set, these were inserted
 pub inserts_all-from : {S : Type 0} (old new : Filter S) (hashes : List ℕ)
     → ((p : ℕ) → content new.words p ≡ (content old.words p
-    || list_any (λ hash. positions_of old hash p) hashes))
+    || list_any (λ hash. positions_of anywhere old hash p) hashes))
     → SameShape old new → new.hasher ≡ old.hasher → InsertsAll old hashes new
 inserts_all-from old new hashes bits shape hasher = (
   replies (num_bits_of old) old.hashes (content old.words) (map Insert hashes),

@@ -7,7 +7,7 @@ use Rattle.bloom_parts.specs.declared.error.FilterError.TheVariants.{EmptyWords,
 use Rattle.bloom_parts.specs.declared.hasher.CloneBuildHasher.{CloneBuildHasher}
 use Rattle.bloom_parts.specs.declared.hasher.sip.RandomDefaultHasher.{RandomDefaultHasher}
 use Rattle.bloom_plain.specs.declared.bloom.data.FilterData.{FilterData}
-use Rattle.bloom_plain.specs.Filter.{Filter, Placement, anywhere, contains_by}
+use Rattle.bloom_plain.specs.Filter.{Filter, Placement, anywhere, contains}
 
 -- a filter with the default hasher
 abbrev pub DefaultFilter : Type 0
@@ -29,20 +29,17 @@ pub record IsDataOf (form : FilterData) (f : DefaultFilter) : Type 0 where
 
 -- two filters of one placement have equal words, numbers of hashes and keys, and contain the same
 -- hashes
-pub record AnswerAlikeBy (place : Placement) (f g : DefaultFilter) : Type 0 where
+pub record AnswerAlike (place : Placement) (f g : DefaultFilter) : Type 0 where
   pub words : g.words ≡ f.words
   pub hashes : g.hashes ≡ f.hashes
   pub key : key_of g.hasher ≡ key_of f.hasher
-  pub found : (hash : ℕ) → contains_by place g hash ≡ contains_by place f hash
-
--- two Bloom filters have equal words, numbers of hashes and keys, and contain the same hashes
-abbrev pub AnswerAlike : DefaultFilter → DefaultFilter → Type 0
-AnswerAlike f g = AnswerAlikeBy anywhere f g
+  pub found : (hash : ℕ) → contains place g hash ≡ contains place f hash
 
 -- two filters of the same data contain the same hashes
 abbrev pub DataLaw : Type 0
 DataLaw =
-    (f g : DefaultFilter) (form : FilterData) → IsDataOf form f → IsDataOf form g → AnswerAlike f g
+    (f g : DefaultFilter) (form : FilterData) → IsDataOf form f → IsDataOf form g
+    → AnswerAlike anywhere f g
 
 -- a hasher that has the key of a filter's data gives each item the source hash that the filter's
 -- hasher gives it

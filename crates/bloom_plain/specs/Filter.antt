@@ -53,34 +53,22 @@ anywhere = record {
 }
 
 -- the set of the positions of a hash
-abbrev pub positions_by : {S : Type 0} → Placement → Filter S → ℕ → ℕ → Bool
-positions_by place f hash = place.positions (length f.words) f.hashes hash
+abbrev pub positions_of : {S : Type 0} → Placement → Filter S → ℕ → ℕ → Bool
+positions_of place f hash = place.positions (length f.words) f.hashes hash
 
--- the same set in a Bloom filter
-abbrev pub positions_of : {S : Type 0} → Filter S → ℕ → ℕ → Bool
-positions_of f hash = positions_by anywhere f hash
-
--- whether all positions of a hash are set
-abbrev pub contains_by : {S : Type 0} → Placement → Filter S → ℕ → Bool
-contains_by place f hash = place.are_in (length f.words) f.hashes hash (content f.words)
-
--- whether a Bloom filter contains a hash: all positions of the hash are set
-abbrev pub contains : {S : Type 0} → Filter S → ℕ → Bool
-contains f hash = contains_by anywhere f hash
+-- whether a filter contains a hash: all positions of the hash are set
+abbrev pub contains : {S : Type 0} → Placement → Filter S → ℕ → Bool
+contains place f hash = place.are_in (length f.words) f.hashes hash (content f.words)
 
 -- an insert took the old filter to the new: the positions of a hash were set, and the reply is
 -- whether all of them were set before
-pub record InsertsBy {S : Type 0} (place : Placement) (old : Filter S) (hash : ℕ) (new : Filter S)
+pub record Inserts {S : Type 0} (place : Placement) (old : Filter S) (hash : ℕ) (new : Filter S)
     (reply : Bool) : Type 0 where
-  pub answers : reply ≡ contains_by place old hash
+  pub answers : reply ≡ contains place old hash
   pub bits : (p : ℕ) → content new.words p
-      ≡ (content old.words p || positions_by place old hash p)
+      ≡ (content old.words p || positions_of place old hash p)
   pub shape : SameShape old new
   pub hasher : new.hasher ≡ old.hasher
-
--- an insert took a Bloom filter to the new one
-abbrev pub Inserts : {S : Type 0} → Filter S → ℕ → Filter S → Bool → Type 0
-Inserts old hash new reply = InsertsBy anywhere old hash new reply
 
 -- a clear took the old filter to the new: every position was cleared
 pub record Clears {S : Type 0} (old new : Filter S) : Type 0 where

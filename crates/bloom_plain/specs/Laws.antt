@@ -6,7 +6,7 @@ use Rattle.bloom_parts.specs.Rates.{num_of, den_of}
 use Rattle.bloom_plain.specs.Builders.{Start, RateStart, same_start, same_rate_start}
 use Rattle.bloom_plain.specs.CommandOf.{operation_of}
 use Rattle.bloom_parts.specs.Operations.{Operation, Insert, Contains, Clear, Union, Intersect}
-use Rattle.bloom_plain.specs.Filter.{Filter, HasShape, SameShape, Placement, positions_of, contains, contains_by, InsertsBy, Clears, Unites, Intersects, same_filter}
+use Rattle.bloom_plain.specs.Filter.{Filter, HasShape, SameShape, Placement, positions_of, contains, Inserts, Clears, Unites, Intersects, same_filter, anywhere}
 use Rattle.bloom_plain.specs.Replies.{CarriesOut, InsertsAll}
 use Rattle.bloom_plain.specs.declared.bloom.command.Command.{Command}
 use Rattle.bloom_plain.specs.declared.bloom.command.Command.TheVariants as command
@@ -14,19 +14,19 @@ use Rattle.bloom_plain.specs.declared.bloom.command.Command.TheVariants as comma
 -- an insert returns what a look-up just before it would have, and afterwards its hash is contained
 abbrev pub InsertLaw : Placement → (S : Type 0) → Type 0
 InsertLaw place S = (old new : Filter S) (hash : ℕ) (reply : Bool)
-    → InsertsBy place old hash new reply
-    → (reply ≡ contains_by place old hash) × (contains_by place new hash ≡ true)
+    → Inserts place old hash new reply
+    → (reply ≡ contains place old hash) × (contains place new hash ≡ true)
 
 -- a hash that is contained stays contained under an insert of any hash
 abbrev pub KeptByInsertLaw : Placement → (S : Type 0) → Type 0
 KeptByInsertLaw place S = (old new : Filter S) (inserted hash : ℕ) (reply : Bool)
-    → InsertsBy place old inserted new reply
-    → contains_by place old hash ≡ true → contains_by place new hash ≡ true
+    → Inserts place old inserted new reply
+    → contains place old hash ≡ true → contains place new hash ≡ true
 
 -- a hash that is contained stays contained under a union
 abbrev pub KeptByUnionLaw : Placement → (S : Type 0) → Type 0
 KeptByUnionLaw place S = (old other new : Filter S) (hash : ℕ) → Unites old other new
-    → contains_by place old hash ≡ true → contains_by place new hash ≡ true
+    → contains place old hash ≡ true → contains place new hash ≡ true
 
 -- a command clears no position of a set: it is no clear, and no intersection with a set that lacks
 -- one of them
@@ -41,31 +41,31 @@ Spares A (Intersect other) = IsPart A other
 abbrev pub KeptByListLaw : (S : Type 0) → Type 0
 KeptByListLaw S = (old new : Filter S) (operations : List Operation) (hash : ℕ)
     (replies : List Bool) → CarriesOut old operations new replies
-    → All (Spares (positions_of old hash)) operations
-    → contains old hash ≡ true → contains new hash ≡ true
+    → All (Spares (positions_of anywhere old hash)) operations
+    → contains anywhere old hash ≡ true → contains anywhere new hash ≡ true
 
 -- a hash that is contained stays contained under a list of inserts
 abbrev pub KeptByInsertsLaw : (S : Type 0) → Type 0
 KeptByInsertsLaw S = (old new : Filter S) (hashes : List ℕ) (hash : ℕ) → InsertsAll old hashes new
-    → contains old hash ≡ true → contains new hash ≡ true
+    → contains anywhere old hash ≡ true → contains anywhere new hash ≡ true
 
 -- after an intersection a hash is contained exactly if both filters contained it
 abbrev pub IntersectionLaw : Placement → (S : Type 0) → Type 0
 IntersectionLaw place S = (old other new : Filter S) (hash : ℕ)
     → SameShape old other → Intersects old other new
-    → contains_by place new hash ≡ (contains_by place old hash && contains_by place other hash)
+    → contains place new hash ≡ (contains place old hash && contains place other hash)
 
 -- after a union a hash is contained if either filter contained it
 abbrev pub UnionLaw : Placement → (S : Type 0) → Type 0
 UnionLaw place S = (old other new : Filter S) (hash : ℕ)
     → SameShape old other → Unites old other new
-    → (contains_by place old hash || contains_by place other hash) ≡ true
-    → contains_by place new hash ≡ true
+    → (contains place old hash || contains place other hash) ≡ true
+    → contains place new hash ≡ true
 
 -- after a clear no hash is contained, since a filter has at least one hash
 abbrev pub ClearLaw : Placement → (S : Type 0) → Type 0
 ClearLaw place S = (old new : Filter S) (hash : ℕ) → 1 ≤ old.hashes → Clears old new
-    → contains_by place new hash ≡ false
+    → contains place new hash ≡ false
 
 -- two filters have the same positions set
 abbrev pub SameContent : {S : Type 0} → Filter S → Filter S → Type 0
@@ -97,7 +97,7 @@ pub record Rebuilds {S : Type 0} (f made : Filter S) : Type 0 where
 -- a filter that was made of another's parts equals it, and contains the same hashes
 abbrev pub RebuiltLaw : (S : Type 0) → Type 0
 RebuiltLaw S = (f made : Filter S) → HasShape f → Rebuilds f made
-    → (made ≡ f) × ((hash : ℕ) → contains made hash ≡ contains f hash)
+    → (made ≡ f) × ((hash : ℕ) → contains anywhere made hash ≡ contains anywhere f hash)
 
 -- filters are equal exactly if their words and numbers of hashes are, whatever their hashers
 abbrev pub EqualityLaw : (S : Type 0) → Type 0
@@ -128,21 +128,21 @@ JoinedListsLaw S = (old mid new : Filter S) (first second : List Operation)
 abbrev pub FoundLaw : (S : Type 0) → Type 0
 FoundLaw S = (old new : Filter S) (earlier later : List Operation) (hash : ℕ)
     (replies : List Bool) → CarriesOut old (earlier ++ Insert hash ∷ later) new replies
-    → All (Spares (positions_of old hash)) later
-    → contains new hash ≡ true
+    → All (Spares (positions_of anywhere old hash)) later
+    → contains anywhere new hash ≡ true
 
 -- each hash of a list of inserts is contained after them
 abbrev pub FoundAfterInsertsLaw : (S : Type 0) → Type 0
 FoundAfterInsertsLaw S = (old new : Filter S) (earlier later : List ℕ) (hash : ℕ)
-    → InsertsAll old (earlier ++ hash ∷ later) new → contains new hash ≡ true
+    → InsertsAll old (earlier ++ hash ∷ later) new → contains anywhere new hash ≡ true
 
 -- a hash is found after `replay` of a list of commands that insert it and later spare its positions
 abbrev pub FoundAfterReplayLaw : (S : Type 0) → Type 0
 FoundAfterReplayLaw S = (old new : Filter S) (earlier later : List (Command S))
     (hash : ℕ) (replies : List Bool)
     → CarriesOut old (map operation_of (earlier ++ command.Insert hash ∷ later)) new replies
-    → All (λ c. Spares (positions_of old hash) (operation_of c)) later
-    → contains new hash ≡ true
+    → All (λ c. Spares (positions_of anywhere old hash) (operation_of c)) later
+    → contains anywhere new hash ≡ true
 
 -- the union of two filters, each made of one filter by a list of inserts, is what the inserts of
 -- both lists make of that filter

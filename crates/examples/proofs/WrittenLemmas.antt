@@ -7,6 +7,7 @@ use Rattle.std.proofs.lemmas.Option.{none-some, same_Some}
 use Rattle.fastbloom.specs.Data.{AnswerAlike, DefaultFilter}
 use Rattle.fastbloom.specs.FileLayouts.{IsReadIn, refusal_in}
 use Rattle.fastbloom.specs.FileReads.{IsInput}
+use Rattle.fastbloom.specs.Filter.{anywhere}
 use Rattle.fastbloom.specs.FilterFiles.{FileLaw, IsFileOf, ReadableLaw, ReadsFile}
 use Rattle.bloom_files.specs.declared.error.FileError.{FileError}
 use Rattle.bloom_files.specs.declared.error.FileError.TheVariants.{Memory}
@@ -20,7 +21,7 @@ module _ (f : DefaultFilter) (before file had : List ℕ) (is : IsFileOf Whole f
 
   -- what is read to the end answers as the filter does
   pub alike : FileLaw → (g : DefaultFilter) (left : Option (List ℕ))
-      → ReadsFile Whole (Some had) left g → AnswerAlike f g
+      → ReadsFile Whole (Some had) left g → AnswerAlike anywhere f g
   alike law g left read =
       let all : read.bytes ≡ had =
       Consumes-all (Some had) left read.bytes [] read.bytes read.taken read.end refl in

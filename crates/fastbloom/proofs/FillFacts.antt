@@ -7,7 +7,7 @@ use Rattle.std.proofs.lemmas.List.Elements.{All-from_recursion}
 use Rattle.fastbloom.proofs.Common.{Contains, chain, positions, AnyCuttingLaw, FilledByInsertsLaw, FilledByUnionLaw, FilledContainsLaw, HaveSameHashes, IsFilledWith, IsPositionOfOne, UnionOfPositionsLaw, hashes_of, positions_of_all, words_of}
 use Rattle.std.specs.Prelude.{IsTrue}
 use Rattle.bloom_parts.specs.Content.{content, AreWords}
-use Rattle.bloom_plain.specs.Filter.{Filter, Unites, contains, same_filter}
+use Rattle.bloom_plain.specs.Filter.{Filter, Unites, contains, same_filter, anywhere}
 use Rattle.bloom_plain.specs.Replies.{InsertsAll}
 use Rattle.bloom_plain.proofs.CaseLemmas.{content-case, positions-past}
 use Rattle.fastbloom.proofs.Cases.{plain, shape}
@@ -138,5 +138,5 @@ filled_union_law law new united =
 
 -- a filter that was filled with hash 0 and hash 1 contains hash 1
 contains_law : FilledContainsLaw ℕ → (f : Filter ℕ) → IsFilledWith shape (0 ∷ 1 ∷ []) f
-    → contains f 1 ≡ true
+    → contains anywhere f 1 ≡ true
 contains_law law f two = law shape f (0 ∷ 1 ∷ []) 1 two (1, lit< tt, refl)

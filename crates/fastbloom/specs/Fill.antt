@@ -4,7 +4,7 @@ use Rattle.std.specs.Prelude.{◌≡◌, ◌↔◌, ℕ, ◌*◌, Bool, true, fa
 use Rattle.std.specs.List.{Contains}
 use Rattle.bloom_parts.specs.Content.{content, AreWords}
 use Rattle.bloom_parts.specs.Places.{positions}
-use Rattle.bloom_plain.specs.Filter.{Filter, Unites, contains, same_filter}
+use Rattle.bloom_plain.specs.Filter.{Filter, Unites, contains, same_filter, anywhere}
 use Rattle.bloom_plain.specs.Replies.{InsertsAll}
 use Rattle.fastbloom.specs.declared.parallel.shape.Shape.{Shape}
 
@@ -66,4 +66,4 @@ FilledByUnionLaw S = (shape : Shape) (old other new : Filter S) (hashes others :
 -- a filter that was filled with hashes contains each of them
 abbrev pub FilledContainsLaw : (S : Type 0) → Type 0
 FilledContainsLaw S = (shape : Shape) (f : Filter S) (hashes : List ℕ) (hash : ℕ)
-    → IsFilledWith shape hashes f → Contains hashes hash → contains f hash ≡ true
+    → IsFilledWith shape hashes f → Contains hashes hash → contains anywhere f hash ≡ true

@@ -3,7 +3,7 @@
 use Rattle.std.proofs.Common.{◌≡◌, ◌⊎◌, inl, inr, ℕ, true, false, ◌||◌, List, [], ◌∷◌, refl, sym, ap, ◌∙◌, lit<, arith}
 use Rattle.summaries_engine.proofs.Common.{Contains, chain, content, AreWords, positions, sip, start, round, absorb, answer, whole_words, rest, DefaultFilter, positions_of_all, LineRangeLaw, Classic, Blocked, HaveSameKey, HaveSameKeys, IsSummaryOf, UnitesShards, hash_in}
 use Rattle.std.proofs.lemmas.Grind.{common_steps}
-use Rattle.fastbloom.specs.Filter.{contains}
+use Rattle.fastbloom.specs.Filter.{contains, anywhere}
 use Rattle.summaries_engine.proofs.Cases.{filter, hash-a, key_a, key_b, line, line_shape, made_of, of_a, of_b, of_both, shape, summary-a, summary-b, summary-line}
 
 -- the hash of "a" is that under both words of a filter's key
@@ -93,7 +93,7 @@ shards : ((made : DefaultFilter) → UnitesShards (of_a ∷ of_b ∷ []) (Classi
     → AreWords whole.words → HaveSameKey (Classic whole) (Classic made)
     → HaveSameKeys (key_a ∷ key_b ∷ []) (key_b ∷ key_a ∷ [])
     → (made.words ≡ whole.words) × (made.hashes ≡ whole.hashes))
-    × (contains made (hash_in (Classic made) key_b) ≡ true))
+    × (contains anywhere made (hash_in (Classic made) key_b) ≡ true))
     × (UnitesShards (of_a ∷ of_b ∷ []) of_a → ⊥)
 unfolding content
 shards = (

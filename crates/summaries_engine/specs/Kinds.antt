@@ -4,9 +4,9 @@ use Rattle.std.specs.Prelude.{◌≡◌, ℕ, Bool, ◌&&◌, List, length, nat_
 use Rattle.bloom_parts.specs.Content.{content}
 use Rattle.bloom_files.specs.declared.layout.Layout.{Layout}
 use Rattle.bloom_files.specs.declared.layout.Layout.TheVariants.{Whole, Lines}
-use Rattle.fastbloom.specs.Blocked.{contains_in_line}
+use Rattle.fastbloom.specs.Blocked.{in_lines}
 use Rattle.fastbloom.specs.Data.{DefaultFilter}
-use Rattle.fastbloom.specs.Filter.{SameShape, Unites, contains}
+use Rattle.fastbloom.specs.Filter.{SameShape, Unites, contains, anywhere}
 use Rattle.fastbloom.specs.FilterFiles.{IsFileOf, file_of}
 use Rattle.summaries_engine.specs.declared.kinds.AnyFilter.{AnyFilter}
 use Rattle.summaries_engine.specs.declared.kinds.AnyFilter.TheVariants.{Classic, Blocked}
@@ -23,8 +23,8 @@ layout_of (Blocked f) = Lines
 
 -- whether all positions of a hash are set
 abbrev pub has_hash : AnyFilter → ℕ → Bool
-has_hash (Classic f) hash = contains f hash
-has_hash (Blocked f) hash = contains_in_line f hash
+has_hash (Classic f) hash = contains anywhere f hash
+has_hash (Blocked f) hash = contains in_lines f hash
 
 -- bit i is set exactly if there is a hash i, and all of its positions are set
 abbrev pub TellsEach : AnyFilter → List ℕ → List ℕ → Type 0

@@ -4,7 +4,8 @@ ghost use Rattle.std.specs.Iterator.{IsFiniteIterable};
 ghost use Rattle.std.specs.Iterator.Runs.{WholeRun};
 ghost use Rattle.std.specs.List.{concat};
 ghost use Rattle.bloom_plain.specs.SourceHash.{source_hash_of, lent_hash_of, IsFunctionOfBytes};
-ghost use Rattle.bloom_blocked.specs.Blocked.{contains_in_line, InsertsInLine, InsertsItemsInLines};
+ghost use Rattle.bloom_plain.specs.Filter.{contains, Inserts};
+ghost use Rattle.bloom_blocked.specs.Blocked.{InsertsItemsInLines, in_lines};
 
 use super::BlockedBloomFilter;
 use crate::many::{LINES_TOGETHER, WORDS_TO_READ_AHEAD};
@@ -41,11 +42,11 @@ impl<S: BuildHasher> BlockedBloomFilter<S> {
     #[inline]
     pub fn insert<T: Hash>(&mut self, val: &T) -> bool
         ensures inserts { let hash = source_hash_of S.BuildHasher S.Hasher.Hasher T.hash_input in
-            InsertsInLine self.old (hash self.old.hasher val.now) self.new result }
+            Inserts in_lines self.old (hash self.old.hasher val.now) self.new result }
         // An equal item would have been inserted alike.
         ensures alike { let hash = source_hash_of S.BuildHasher S.Hasher.Hasher T.hash_input in
             (other : T) → IsTrue (T.eq val.now other)
-            → InsertsInLine self.old (hash self.old.hasher other) self.new result }
+            → Inserts in_lines self.old (hash self.old.hasher other) self.new result }
     {
         let hash = self.source_hash(val);
         self.insert_hash(hash)
@@ -56,11 +57,11 @@ impl<S: BuildHasher> BlockedBloomFilter<S> {
     #[inline]
     pub fn contains<T: Hash>(&self, val: &T) -> bool
         ensures found { let hash = source_hash_of S.BuildHasher S.Hasher.Hasher T.hash_input in
-            result ≡ contains_in_line self.now (hash self.now.hasher val.now) }
+            result ≡ contains in_lines self.now (hash self.now.hasher val.now) }
         // An equal item is found alike.
         ensures alike { let hash = source_hash_of S.BuildHasher S.Hasher.Hasher T.hash_input in
             (other : T) → IsTrue (T.eq val.now other)
-            → result ≡ contains_in_line self.now (hash self.now.hasher other) }
+            → result ≡ contains in_lines self.now (hash self.now.hasher other) }
     {
         self.contains_hash(self.source_hash(val))
     }

@@ -4,7 +4,7 @@ ghost use Rattle.std.specs.Iterator.{IsFiniteIterable};
 ghost use Rattle.std.specs.Iterator.Runs.{WholeRun};
 ghost use Rattle.std.specs.List.{concat};
 ghost use Rattle.bloom_parts.specs.Operations as operation;
-ghost use Rattle.bloom_plain.specs.Filter.{contains, Inserts};
+ghost use Rattle.bloom_plain.specs.Filter.{contains, Inserts, anywhere};
 ghost use Rattle.bloom_plain.specs.Replies.{CarriesOut, InsertsItems};
 ghost use Rattle.bloom_plain.specs.SourceHash.{source_hash_of, lent_hash_of, IsFunctionOfBytes};
 
@@ -42,7 +42,7 @@ impl<S: BuildHasher> BloomFilter<S> {
     #[inline]
     pub fn insert<T: Hash>(&mut self, val: &T) -> bool
         ensures inserts { let hash = source_hash_of S.BuildHasher S.Hasher.Hasher T.hash_input in
-            Inserts self.old (hash self.old.hasher val.now) self.new result }
+            Inserts anywhere self.old (hash self.old.hasher val.now) self.new result }
         // The insert as a list of this one command.
         ensures same { let hash = source_hash_of S.BuildHasher S.Hasher.Hasher T.hash_input in
             CarriesOut self.old (operation.Insert (hash self.old.hasher val.now) ∷ [])
@@ -50,7 +50,7 @@ impl<S: BuildHasher> BloomFilter<S> {
         // An equal item would have been inserted alike.
         ensures alike { let hash = source_hash_of S.BuildHasher S.Hasher.Hasher T.hash_input in
             (other : T) → IsTrue (T.eq val.now other)
-            → Inserts self.old (hash self.old.hasher other) self.new result }
+            → Inserts anywhere self.old (hash self.old.hasher other) self.new result }
     {
         let hash = self.source_hash(val);
         self.insert_hash(hash)
@@ -61,7 +61,7 @@ impl<S: BuildHasher> BloomFilter<S> {
     #[inline]
     pub fn contains<T: Hash>(&self, val: &T) -> bool
         ensures found { let hash = source_hash_of S.BuildHasher S.Hasher.Hasher T.hash_input in
-            result ≡ contains self.now (hash self.now.hasher val.now) }
+            result ≡ contains anywhere self.now (hash self.now.hasher val.now) }
         // The look-up as a list of this one command.
         ensures same { let hash = source_hash_of S.BuildHasher S.Hasher.Hasher T.hash_input in
             CarriesOut self.now (operation.Contains (hash self.now.hasher val.now) ∷ [])
@@ -69,7 +69,7 @@ impl<S: BuildHasher> BloomFilter<S> {
         // An equal item is found alike.
         ensures alike { let hash = source_hash_of S.BuildHasher S.Hasher.Hasher T.hash_input in
             (other : T) → IsTrue (T.eq val.now other)
-            → result ≡ contains self.now (hash self.now.hasher other) }
+            → result ≡ contains anywhere self.now (hash self.now.hasher other) }
     {
         self.contains_hash(self.source_hash(val))
     }

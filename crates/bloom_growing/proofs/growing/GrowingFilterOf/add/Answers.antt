@@ -1,5 +1,5 @@
 use Rattle.std.proofs.Common.{◌≡◌, ◌<◌, false, map, sym, subst}
-use Rattle.bloom_growing.proofs.Common.{setup_of, any_contains, newest_room, IsSound, InsertsIn}
+use Rattle.bloom_growing.proofs.Common.{setup_of, any_contains, newest_room, IsSound, placement_of, Inserts}
 use Rattle.bloom_growing.proofs.GrowingKeptLemmas.{kept-adds}
 use Rattle.bloom_growing.proofs.growing.GrowingFilterOf.add.Goals as goal
 
@@ -30,5 +30,6 @@ invariant_of-self-2 g c =
     (seen c.insert_once.new.self)
     (subst (λ v. any_contains kind v.older c.args.hash ≡ false) (sym c.self.view_is) c.requires.new)
     (subst (λ v. v.taken < newest_room v) (sym c.self.view_is) c.requires.room)
-    (subst (InsertsIn kind (seen inside.newest) c.args.hash (seen c.insert_once.new.self))
+    (subst
+    (Inserts (placement_of kind) (seen inside.newest) c.args.hash (seen c.insert_once.new.self))
     c.if-insert_once.false did)

@@ -1,5 +1,5 @@
 use Rattle.std.proofs.Common.{◌≡◌, ◌≤◌, ◌+◌, false, [], ◌∷◌, ◌++◌, None, Some, length, map, sym, refl, ◌∙◌, ap, subst}
-use Rattle.bloom_growing.proofs.Common.{map-append, err_from_is_err_and, setup_of, newest_room, IsNumber, BeginsNext, RefusesNumber, contains_in}
+use Rattle.bloom_growing.proofs.Common.{map-append, err_from_is_err_and, setup_of, newest_room, IsNumber, BeginsNext, RefusesNumber, placement_of, contains}
 use Rattle.bloom_growing.proofs.GrowingKeptLemmas.{kept-begins, next-begins, some_room_at}
 use Rattle.bloom_growing.proofs.GrowingLemmas.{made-empty}
 use Rattle.bloom_growing.proofs.GrowingRefusalLemmas.{refuses-memory}
@@ -72,7 +72,8 @@ returns-clause-new g c = λ hash.
     let kind = g.F.GrowableFilter.kind in
     let seen = g.F.GrowableFilter.seen in
     let next = next-begins _ _ _ _ c.self.invariant _ c.checked_mul-room.ensures in
-    subst (λ f. contains_in kind f hash ≡ false) (sym (ap seen c.replace-full.ensures.after))
+    subst (λ f. contains (placement_of kind) f hash ≡ false)
+    (sym (ap seen c.replace-full.ensures.after))
     (made-empty kind _ _ _ hash (c.in_ok-next.ensures.made _ _ _ next).number)
 
 pub returns-clause-room : goal.returns-clause-room

@@ -1,5 +1,5 @@
 use Rattle.std.proofs.Common.{◌+◌, false, refl, sym, subst, arith}
-use Rattle.bloom_growing.proofs.Common.{Clears, InsertsIn}
+use Rattle.bloom_growing.proofs.Common.{Clears, placement_of, Inserts}
 use Rattle.bloom_growing.proofs.RotatingLemmas.{rotating-filled, rotating-turned}
 use Rattle.bloom_growing.proofs.rotating.RotatingFilterOf.insert_hash.Goals as goal
 
@@ -9,7 +9,8 @@ invariant_of-self-then-self g c =
     let seen = g.F.GrowableFilter.seen in
     let inside = c.self.inside in
     let did =
-    subst (InsertsIn kind (seen inside.newer) c.args.hash (seen c.insert_once.new.self))
+    subst
+    (Inserts (placement_of kind) (seen inside.newer) c.args.hash (seen c.insert_once.new.self))
     c.if-insert_once.false c.insert_once.ensures.inserts in
     rotating-filled kind _ c.self.invariant c.args.hash (seen c.insert_once.new.self) did
     (inside.taken + 1) refl (omega (arith, c.if-self.true))
@@ -20,9 +21,10 @@ invariant_of-self-2 g c =
     let seen = g.F.GrowableFilter.seen in
     let inside = c.self.inside in
     let did =
-    subst (λ f. InsertsIn kind (seen inside.newer) c.args.hash (seen f) false)
+    subst (λ f. Inserts (placement_of kind) (seen inside.newer) c.args.hash (seen f) false)
     (sym c.swap.ensures.x_after)
-    (subst (InsertsIn kind (seen inside.newer) c.args.hash (seen c.insert_once.new.self))
+    (subst
+    (Inserts (placement_of kind) (seen inside.newer) c.args.hash (seen c.insert_once.new.self))
     c.if-insert_once.false c.insert_once.ensures.inserts) in
     rotating-turned kind _ c.self.invariant c.args.hash (seen c.swap.new.x) did
     (seen c.clear.new.self) c.saturating_add-self-inside.result

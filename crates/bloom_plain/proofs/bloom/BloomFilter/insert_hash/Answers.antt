@@ -1,5 +1,5 @@
 use Rattle.std.proofs.Common.{◌≡◌, refl, sym, subst, arith}
-use Rattle.bloom_plain.specs.Filter.{Filter, Inserts}
+use Rattle.bloom_plain.specs.Filter.{Filter, Inserts, anywhere}
 use Rattle.bloom_plain.proofs.ReplyLemmas.{carries_out-insert}
 use Rattle.bloom_plain.proofs.bloom.BloomFilter.insert_hash.Goals as goal
 
@@ -11,7 +11,7 @@ returns-clause-inserts g c =
     record { words = did.new.self; hashes = inside.num_hashes; hasher = inside.hasher } in
     let same : c.max-num_hashes.result ≡ inside.num_hashes =
     omega (arith, c.max-num_hashes.ensures, c.self.invariant.some_hashes) in
-    subst (λ old. Inserts old c.args.hash new did.result) c.self.view_is (record {
+    subst (λ old. Inserts anywhere old c.args.hash new did.result) c.self.view_is (record {
       answers = rw (sym same) did.ensures.reply;
       bits = λ p. rw (sym same) (did.ensures.content p);
       shape = record { words = sym did.ensures.shape; hashes = refl };
