@@ -16,7 +16,7 @@ den_at-next rate i = room_at-next (den_of rate) (i + 1)
 -- the filters contain a hash if an older one or the newest does
 pub has-or : {S : Type 0} (kind : Kind) (g : Growing S) (hash : ℕ)
     → has kind g hash
-      ≡ (any_contains kind g.older hash || contains (placement_of kind) g.newest hash)
+    ≡ (any_contains kind g.older hash || contains (placement_of kind) g.newest hash)
 has-or kind g hash =
     list_any-append (λ f. contains (placement_of kind) f hash) g.older (g.newest ∷ [])
     ∙ ap (λ b. any_contains kind g.older hash || b)

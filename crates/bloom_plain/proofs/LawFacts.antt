@@ -61,7 +61,7 @@ from_kept_by_list law =
 -- the intersection of 5 and 6 contains hash 0 exactly if both do
 from_intersection : IntersectionLaw anywhere ℕ
     → contains anywhere (one_word 4) 0
-      ≡ (contains anywhere (one_word 5) 0 && contains anywhere set.six 0)
+    ≡ (contains anywhere (one_word 5) 0 && contains anywhere set.six 0)
 from_intersection law =
     law (one_word 5) set.six (one_word 4) 0 (record { words = refl; hashes = refl })
     set.intersects-cases.0
@@ -126,7 +126,7 @@ from_united_inserts law =
 -- what is made of the parts of a filter of no hashes or one equals it and answers alike
 from_rebuilt : RebuiltLaw ℕ → (made : Filter ℕ) → Rebuilds (one_word 5) made
     → (made ≡ one_word 5)
-      × ((hash : ℕ) → contains anywhere made hash ≡ contains anywhere (one_word 5) hash)
+    × ((hash : ℕ) → contains anywhere made hash ≡ contains anywhere (one_word 5) hash)
 from_rebuilt law made did = law (one_word 5) made (shape 5) did
 
 -- a filter equals one of word 5 and two hashes exactly if it has these, whatever its hasher
