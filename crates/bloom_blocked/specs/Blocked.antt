@@ -1,7 +1,7 @@
 -- What contracts see of a blocked filter, and what its calls do. It has the parts of a Bloom filter
 -- (`bloom_plain` Filter): clear, union, intersection, equality and counts are the same of both
 -- kinds. Only the positions of a hash are others. This project's own.
-use Rattle.std.specs.Prelude.{◌≡◌, ℕ, ◌/◌, ◌%◌, ◌^◌, ◌<◌, ◌≤◌, Bool, ◌||◌, List, length, map}
+use Rattle.std.specs.Prelude.{◌≡◌, ℕ, ◌/◌, ◌%◌, ◌^◌, ◌<◌, ◌≤◌, ◌||◌, List, length, map}
 use Rattle.bloom_parts.specs.Content.{content}
 use Rattle.bloom_plain.specs.Filter.{Filter, SameShape, Placement}
 use Rattle.bloom_blocked.specs.Lines.{line_positions, are_in_line}

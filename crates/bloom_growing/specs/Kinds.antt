@@ -1,6 +1,6 @@
 -- The filters of which one that grows, or rotates, consists: they are plain, or blocked. Both kinds
 -- have the same parts (`bloom_plain` Filter), and differ in the positions of a hash and in sizes.
-use Rattle.std.specs.Prelude.{◌≡◌, ℕ, Bool, false, List, [], ◌∷◌, Option}
+use Rattle.std.specs.Prelude.{◌≡◌, ℕ, false, List, [], ◌∷◌, Option}
 use Rattle.bloom_parts.specs.declared.error.FilterError.{FilterError}
 use Rattle.bloom_parts.specs.Sizing.{IsSizeFor}
 use Rattle.bloom_plain.specs.Builders.{RateStart, IsMadeFor, size_refusal}

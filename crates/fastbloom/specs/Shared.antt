@@ -1,6 +1,6 @@
 -- Calls on a filter that threads share. Which steps make up a call is said once for all vectors
 -- (`bloom_steps` LiveSteps). These definitions are this project's own.
-use Rattle.std.specs.Prelude.{◌≡◌, ◌≢◌, ℕ, ◌<◌, List, map}
+use Rattle.std.specs.Prelude.{◌≢◌, ℕ, ◌<◌, List, map}
 use Rattle.bloom_parts.specs.Made.{SharedWords, BeganWith, FoundByLoad}
 use Rattle.bloom_plain.specs.Builders.{RateStart, IsSizeOf, sized_filter, empty_start}
 use Rattle.bloom_plain.specs.SharedFilters.{SharedFilter, HaveSameShape, HasFormOf}

@@ -1,5 +1,5 @@
 -- Keys of one input that weren't taken to their end.
-use Rattle.std.proofs.Common.{◌≡◌, inl, inr, ℕ, ◌-◌, ◌≤◌, List, [], ◌∷◌, ◌++◌, length, Option, Some, None, refl, sym, subst}
+use Rattle.std.proofs.Common.{◌≡◌, inl, inr, ℕ, ◌≤◌, List, [], ◌∷◌, ◌++◌, length, Option, Some, None, refl, sym, subst}
 use Rattle.summaries_engine.proofs.Common.{All-nil, Appends-kept, Keeps, AnyFilter, lines_by, AppendsPart, part-second, Wanted, Stop, Memory, wanted_text, too_long_text}
 use Rattle.lines.specs.Reading.{Waiting, KnowsEnd, TakesLongBy, TakesShortBy, IsReadFromBy, left_of}
 use Rattle.lines.proofs.TakenLemmas.{TakesLinesBy, IsReadFrom-taken, IsReadToLong-from}
