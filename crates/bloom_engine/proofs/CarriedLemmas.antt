@@ -7,7 +7,7 @@ use Rattle.bloom_parts.specs.Operations as command
 use Rattle.bloom_parts.specs.Operations.{Operation, state_after}
 use Rattle.bloom_plain.specs.Replies.{CarriesOut, replies_after}
 use Rattle.bloom_engine.specs.Lines.{operation_of_line, operations}
-use Rattle.bloom_engine.specs.Texts.{reply_text, words_text, words_with_content, words_after, text_after, text_of}
+use Rattle.bloom_engine.specs.Texts.{reply_text, words_text, words_with_content, words_after_lines, text_after, text_of}
 
 module _ (w k : ℕ) (A : ℕ → Bool) where
   -- the first line's text, and then a text of which two parts are known
@@ -40,7 +40,7 @@ module _ (w k : ℕ) (A : ℕ → Bool) where
         (text_after-more (before ++ command.Clear ∷ []) (earlier ++ Clear ∷ []) lines)
         (ap (λ e. text_after w k A e (line ∷ []) reply) (append_assoc earlier (Clear ∷ []) lines))
     text_after-more before earlier (Words ∷ lines) =
-        join (words_text (words_after w k A earlier)) _ _ _ _
+        join (words_text (words_after_lines w k A earlier)) _ _ _ _
         (text_after-more before (earlier ++ Words ∷ []) lines)
         (ap (λ e. text_after w k A e (line ∷ []) reply) (append_assoc earlier (Words ∷ []) lines))
 

@@ -34,8 +34,8 @@ words_with_content A (suc w) =
     words_with_content A w ++ word_with_bits (λ bit. A (64 * w + bit)) 64 ∷ []
 
 -- the words after lines, where the content was A before them, at w words and k hashes
-abbrev pub words_after : ℕ → ℕ → (ℕ → Bool) → List Line → List ℕ
-words_after w k A lines = words_with_content (state_after (64 * w) k A (operations lines)) w
+abbrev pub words_after_lines : ℕ → ℕ → (ℕ → Bool) → List Line → List ℕ
+words_after_lines w k A lines = words_with_content (state_after (64 * w) k A (operations lines)) w
 
 -- what lines write that come after earlier ones, where the filter gives these replies
 abbrev pub text_after : ℕ → ℕ → (ℕ → Bool) → List Line → List Line → List Bool → List ℕ
@@ -49,7 +49,8 @@ text_after w k A earlier (Contains hash ∷ lines) (reply ∷ given) =
 text_after w k A earlier (Clear ∷ lines) given =
     text_after w k A (earlier ++ Clear ∷ []) lines given
 text_after w k A earlier (Words ∷ lines) given =
-    words_text (words_after w k A earlier) ++ text_after w k A (earlier ++ Words ∷ []) lines given
+    words_text (words_after_lines w k A earlier)
+    ++ text_after w k A (earlier ++ Words ∷ []) lines given
 
 -- the text of good lines: each reply, and the words at each `w`
 abbrev pub text_of : ℕ → ℕ → (ℕ → Bool) → List Line → List Bool → List ℕ

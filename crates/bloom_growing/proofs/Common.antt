@@ -1,6 +1,6 @@
 -- The names that most proofs of this crate cite, besides those of the standard library, passed on
 -- from one place. Declares nothing.
-pub use Rattle.bloom_growing.specs.Growing.{AreFull, Growing, IsNext, IsNumber, IsSound, Setup, Took, any_contains, den_at, has, newest_room, rate_start, room_at, setup_of}
+pub use Rattle.bloom_growing.specs.Growing.{AreFull, Growing, IsNextRate, IsNumber, IsSound, Setup, Took, any_contains, den_at, has, newest_room, rate_start, room_at, setup_of}
 pub use Rattle.bloom_growing.specs.GrowingInserts.{Accepts, Adds, BeginsNext, RefusesNumber, of_builders}
 pub use Rattle.bloom_growing.specs.GrowingRates.{BoundsAny, Part, part_after, part_now, parts_full, parts_grown, parts_now}
 pub use Rattle.bloom_growing.specs.Kinds.{Blocked, IsMadeIn, IsSizeIn, Kind, Plain, placement_of, size_refusal_in}

@@ -4,7 +4,7 @@ use Rattle.bloom_growing.proofs.Common.{MatchOption, cases_lt, one-le-pow, Rate,
 use Rattle.std.specs.Option.{SomeIff}
 use Rattle.bloom_parts.specs.declared.hasher.CloneBuildHasher.{CloneBuildHasher}
 use Rattle.bloom_parts.specs.declared.hasher.sip.RandomDefaultHasher.{RandomDefaultHasher}
-use Rattle.bloom_growing.specs.Growing.{Setup, Growing, room_at, den_at, newest_room, rate_start, IsNumber, IsNext, IsMadeAs, any_contains, Took, AreFull, IsKeyed, IsSound}
+use Rattle.bloom_growing.specs.Growing.{Setup, Growing, room_at, den_at, newest_room, rate_start, IsNumber, IsNextRate, IsMadeAs, any_contains, Took, AreFull, HasSomeKey, IsSound}
 use Rattle.bloom_growing.proofs.GrowingLemmas.{room_at-next, den_at-next, took-none, took-next, are_full-next}
 
 -- the builders made a filter for the rate and the room of its number
@@ -27,7 +27,7 @@ some_room_at (suc room) i some = omega (arith, one-le-pow i 2 (lit≤ tt))
 
 -- the first filter has half the rate, and the room that was asked for
 pub next-first : (rate : Rate) (first room : ℕ) → room ≡ first → 1 ≤ first
-    → IsNext rate first 0 rate (Some room)
+    → IsNextRate rate first 0 rate (Some room)
 next-first rate first room is some = record {
   num = refl;
   den = omega arith;
@@ -39,7 +39,7 @@ next-first rate first room is some = record {
 pub kept-begun : (kind : Kind) (setup : Setup (CloneBuildHasher RandomDefaultHasher))
     (none : List (Filter (CloneBuildHasher RandomDefaultHasher)))
     (made : Filter (CloneBuildHasher RandomDefaultHasher)) (half : Rate) (room : ℕ)
-    → 1 ≤ setup.room → IsKeyed setup.hasher → none ≡ [] → IsMadeAs kind setup 0 made half room
+    → 1 ≤ setup.room → HasSomeKey setup.hasher → none ≡ [] → IsMadeAs kind setup 0 made half room
     → IsSound kind (record { setup = setup; older = none; newest = made; taken = 0 }) half room
 kept-begun kind setup none made half room some key is first =
     subst
@@ -68,7 +68,7 @@ module _ (kind : Kind) (g : Growing (CloneBuildHasher RandomDefaultHasher)) (rat
     (kept : IsSound kind g rate room) where
   -- the next filter has half the rate of the newest, and twice the room
   pub next-begins : (many : Option ℕ) → SomeIff many (room * 2 < 2 ^ 64) (room * 2)
-      → IsNext g.setup.rate g.setup.room (length g.older + 1) rate many
+      → IsNextRate g.setup.rate g.setup.room (length g.older + 1) rate many
   next-begins many is =
       let number = length g.older in
       let twice : room * 2 ≡ room_at g.setup.room (number + 1) =

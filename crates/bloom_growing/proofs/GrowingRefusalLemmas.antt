@@ -1,6 +1,6 @@
 -- Why the next filter of one that grows is refused.
 use Rattle.std.proofs.Common.{◌≡◌, ℕ, ◌^◌, ◌<◌, ◌≤◌, max, Option, Some, None, refl, ap, subst, arith}
-use Rattle.bloom_growing.proofs.Common.{MatchOption, Memory, Rate, num_of, den_of, IsNext, room_at, den_at, of_builders, RefusesNumber, Kind, IsSizeIn, size_refusal_in}
+use Rattle.bloom_growing.proofs.Common.{MatchOption, Memory, Rate, num_of, den_of, IsNextRate, room_at, den_at, of_builders, RefusesNumber, Kind, IsSizeIn, size_refusal_in}
 use Rattle.bloom_parts.specs.declared.error.FilterError.{FilterError}
 use Rattle.bloom_plain.specs.Builders.{RefusesAs}
 use Rattle.bloom_growing.specs.declared.growing.error.GrowingError.{GrowingError}
@@ -8,13 +8,13 @@ use Rattle.bloom_growing.specs.declared.growing.error.GrowingError.TheVariants.{
 
 -- the room of a number of which it is told
 pub room-of : (rate last : Rate) (room i many : ℕ) (told : Option ℕ) → told ≡ Some many
-    → IsNext rate room i last told → many ≡ room_at room i
+    → IsNextRate rate room i last told → many ≡ room_at room i
 room-of rate last room i many told is next =
     subst (λ o. MatchOption o (2 ^ 64 ≤ room_at room i) (λ n. n ≡ room_at room i)) is next.fits
 
 -- and one that is no number of 64 bits
 pub room-past : (rate last : Rate) (room i : ℕ) (told : Option ℕ) → told ≡ None
-    → IsNext rate room i last told → 2 ^ 64 ≤ room_at room i
+    → IsNextRate rate room i last told → 2 ^ 64 ≤ room_at room i
 room-past rate last room i told is next =
     subst (λ o. MatchOption o (2 ^ 64 ≤ room_at room i) (λ n. n ≡ room_at room i)) is next.fits
 

@@ -58,7 +58,7 @@ pub record IsNumber {S : Type 0} (kind : Kind) (setup : Setup S) (i : ℕ) (made
     pub is_made : IsMadeIn kind (rate_start rate setup.hasher) (room_at setup.room i) made
 
 -- the rate whose half filter number i has, and its room, which may be no number of 64 bits
-pub record IsNext (rate : Rate) (room i : ℕ) (last : Rate) (many : Option ℕ) : Type 0 where
+pub record IsNextRate (rate : Rate) (room i : ℕ) (last : Rate) (many : Option ℕ) : Type 0 where
   pub num : num_of last ≡ num_of rate
   pub den : den_of last * 2 ≡ den_at rate i
   pub some : 1 ≤ room_at room i
@@ -107,14 +107,14 @@ pub record IsGrown {S : Type 0} (kind : Kind) (g : Growing S) : Type 0 where
   pub most : g.taken ≤ newest_room g
 
 -- the default hasher has some key, and has taken in nothing
-abbrev pub IsKeyed : CloneBuildHasher RandomDefaultHasher → Type 0
-IsKeyed hasher = (k0 : ℕ) × (k1 : ℕ) × HasKey hasher k0 k1
+abbrev pub HasSomeKey : CloneBuildHasher RandomDefaultHasher → Type 0
+HasSomeKey hasher = (k0 : ℕ) × (k1 : ℕ) × HasKey hasher k0 k1
 
 -- what a filter that grows keeps: the rule, a key, and the rate and the room of its newest filter
 pub record IsSound (kind : Kind) (g : Growing (CloneBuildHasher RandomDefaultHasher)) (rate : Rate)
     (room : ℕ) : Type 0 where
   pub grown : IsGrown kind g
-  pub key : IsKeyed g.setup.hasher
+  pub key : HasSomeKey g.setup.hasher
   pub num : num_of rate ≡ num_of g.setup.rate
   pub den : den_of rate ≡ den_at g.setup.rate (length g.older)
   pub newest_is : room ≡ newest_room g

@@ -4,7 +4,7 @@ ghost use Rattle.std.specs.Prelude.{◌≡◌, ℕ, ◌+◌, ◌<◌, ◌≤◌,
 ghost use Rattle.std.specs.Result.{result_err};
 ghost use Rattle.std.specs.Int.{w128, to_be_bytes};
 ghost use Rattle.bloom_parts.specs.Keys.{HasKey, key_low, key_high};
-ghost use Rattle.bloom_growing.specs.Growing.{setup_of, IsKeyed, any_contains, has, newest_room};
+ghost use Rattle.bloom_growing.specs.Growing.{setup_of, HasSomeKey, any_contains, has, newest_room};
 ghost use Rattle.bloom_growing.specs.GrowingInserts.{IsBegun, BeginsNext, Adds, Accepts, RefusesNumber, RefusesInsert};
 ghost use Rattle.bloom_plain.specs.Filter.{contains};
 ghost use Rattle.bloom_growing.specs.Kinds.{placement_of};
@@ -124,7 +124,7 @@ impl<F: GrowableFilter> GrowingFilterOf<F> {
         items: usize,
         hasher: DefaultHasher,
     ) -> Result<Self, GrowingError>
-        requires { IsKeyed hasher }
+        requires { HasSomeKey hasher }
         ensures begun { IfOk result (λ g. IsBegun F.kind (setup_of rate (max 1 items) hasher) g) }
         ensures refused { RefusesNumber F.kind rate (max 1 items) 0 (result_err result) }
     {

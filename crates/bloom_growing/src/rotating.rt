@@ -4,7 +4,7 @@ ghost use Rattle.std.specs.Prelude.{◌≡◌, ℕ, max, IfOk};
 ghost use Rattle.std.specs.Result.{result_err};
 ghost use Rattle.std.specs.Int.{w128, to_be_bytes};
 ghost use Rattle.bloom_parts.specs.Keys.{HasKey, key_low, key_high};
-ghost use Rattle.bloom_growing.specs.Growing.{setup_of, IsKeyed};
+ghost use Rattle.bloom_growing.specs.Growing.{setup_of, HasSomeKey};
 ghost use Rattle.bloom_growing.specs.GrowingInserts.{RefusesNumber};
 ghost use Rattle.bloom_growing.specs.Rotating.{either_contains, IsUnused, Receives};
 
@@ -121,7 +121,7 @@ impl<F: GrowableFilter> RotatingFilterOf<F> {
         items: usize,
         hasher: DefaultHasher,
     ) -> Result<Self, GrowingError>
-        requires { IsKeyed hasher }
+        requires { HasSomeKey hasher }
         ensures unused { IfOk result (λ r. IsUnused F.kind (setup_of rate (max 1 items) hasher) r) }
         ensures refused { RefusesNumber F.kind rate (max 1 items) 0 (result_err result) }
     {

@@ -8,7 +8,7 @@ use Rattle.bloom_parts.specs.Places.{are_in, positions}
 use Rattle.fastbloom.specs.Filter.{Filter}
 use Rattle.fastbloom.specs.Passes.{SeatedFilter, Sight}
 use Rattle.fastbloom.specs.Sets.{set_of}
-use Rattle.examples.specs.Guarded.{IsBefore, Lacks}
+use Rattle.examples.specs.Guarded.{IsBefore, LacksKey}
 use Rattle.examples.specs.Known.{KnowsAll}
 
 -- a filter of these words, by two hashes; hash 1 has the positions 0 and 20 among 64 bits, which
@@ -27,8 +27,8 @@ one (suc zero) = Some 10
 one (suc (suc _)) = None
 
 -- a filter lacks a key where it has the first of its positions alone, and not where it has both
-lacks : Lacks hash_of (filter (1 ∷ [])) 1
-    × (Lacks hash_of (filter (1048577 ∷ [])) 1 → ⊥)
+lacks : LacksKey hash_of (filter (1 ∷ [])) 1
+    × (LacksKey hash_of (filter (1048577 ∷ [])) 1 → ⊥)
 unfolding content chain are_in
 lacks = (refl, λ lacks. (let wrong : true ≡ false = lacks in cc))
 

@@ -12,7 +12,7 @@ use Rattle.bloom_parts.specs.Powers.{rounded_power}
 use Rattle.bloom_parts.specs.declared.math.bracket.Bracket.{Bracket}
 use Rattle.bloom_parts.specs.declared.math.estimate.Estimate.{Estimate}
 use Rattle.bloom_steps.specs.Loaded.{CountsLoaded}
-use Rattle.fastbloom_c.specs.Estimates.{Tells, TellsPart, ones_of_words, ones_of_either_words}
+use Rattle.fastbloom_c.specs.Estimates.{TellsBounds, TellsPart, ones_of_words, ones_of_either_words}
 use Rattle.fastbloom_c.specs.Rates.{HoldRate}
 use Rattle.fastbloom_c.specs.SharedRates.{BoundsWords, EstimatesWords}
 
@@ -46,12 +46,12 @@ abbrev top : Estimate → ℕ
 top estimate = unwrap_or (most_of estimate) (2 ^ 64 - 1)
 
 -- just the two bounds are told, or the greatest number of 64 bits where there is no upper one
-tells-bounds : Tells (λ estimate. estimate ≡ two_to_five) 2 5
-    × Tells (λ estimate. estimate ≡ two_at_least) 2 (2 ^ 64 - 1)
-    × (Tells (λ estimate. estimate ≡ two_to_five) 1 5 → ⊥)
-    × (Tells (λ estimate. estimate ≡ two_to_five) 2 6 → ⊥)
-    × (Tells (λ estimate. estimate ≡ two_at_least) 2 (2 ^ 64 - 2) → ⊥)
-    × (Tells (λ estimate. ⊥) 2 5 → ⊥)
+tells-bounds : TellsBounds (λ estimate. estimate ≡ two_to_five) 2 5
+    × TellsBounds (λ estimate. estimate ≡ two_at_least) 2 (2 ^ 64 - 1)
+    × (TellsBounds (λ estimate. estimate ≡ two_to_five) 1 5 → ⊥)
+    × (TellsBounds (λ estimate. estimate ≡ two_to_five) 2 6 → ⊥)
+    × (TellsBounds (λ estimate. estimate ≡ two_at_least) 2 (2 ^ 64 - 2) → ⊥)
+    × (TellsBounds (λ estimate. ⊥) 2 5 → ⊥)
 tells-bounds = (
   record { estimate = two_to_five; holds = refl; is_low = refl; is_high = refl },
   record { estimate = two_at_least; holds = refl; is_low = refl; is_high = refl },

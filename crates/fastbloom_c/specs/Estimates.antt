@@ -18,7 +18,7 @@ ones_of_either_words words other =
 
 -- two numbers are the bounds of an estimate of which something holds, and the greatest number of 64
 -- bits stands for an upper bound that is missing
-pub record Tells (P : Estimate → Type 0) (low high : ℕ) : Type 0 where
+pub record TellsBounds (P : Estimate → Type 0) (low high : ℕ) : Type 0 where
   pub estimate : Estimate
   pub holds : P estimate
   pub is_low : low ≡ least_of estimate

@@ -2,7 +2,7 @@
 ghost use Rattle.std.specs.Prelude.{◌≡◌, ◌↔◌, ◌-◌, ◌*◌, ◌^◌, ◌<◌, ◌≤◌, false, IsTrue, length, max, unwrap_or};
 ghost use Rattle.bloom_parts.specs.Alike.{EstimatesCommon, EstimatesLikeness};
 ghost use Rattle.bloom_parts.specs.Estimates.{EstimatesItems, least_of, most_of};
-ghost use Rattle.fastbloom_c.specs.Estimates.{Tells, TellsPart, ones_of_words, ones_of_either_words};
+ghost use Rattle.fastbloom_c.specs.Estimates.{TellsBounds, TellsPart, ones_of_words, ones_of_either_words};
 
 use bloom_parts::bit_vector::MAX_WORDS;
 use bloom_parts::math::{Bracket, Estimate, estimated_common, estimated_items, estimated_part};
@@ -98,7 +98,7 @@ pub extern "C" fn fastbloom_estimate(
     high: &mut usize,
 ) -> bool
     ensures done { IsTrue result ↔ ((1 ≤ length words.now) × (length words.now < 2 ^ 58)) }
-    ensures bounds { IsTrue result → Tells
+    ensures bounds { IsTrue result → TellsBounds
         (EstimatesItems (64 * length words.now) (max 1 num_hashes) (ones_of_words words.now))
         low.new high.new }
     // A refusal tells nothing.
@@ -129,7 +129,7 @@ pub extern "C" fn fastbloom_estimate_union(
 ) -> bool
     ensures done { IsTrue result ↔ ((1 ≤ length words.now) × (length words.now < 2 ^ 58)
         × (length words.now ≡ length other.now)) }
-    ensures bounds { IsTrue result → Tells
+    ensures bounds { IsTrue result → TellsBounds
         (EstimatesItems (64 * length words.now) (max 1 num_hashes)
         (ones_of_either_words words.now other.now)) low.new high.new }
     // A refusal tells nothing.
@@ -160,7 +160,7 @@ pub extern "C" fn fastbloom_estimate_common(
 ) -> bool
     ensures done { IsTrue result ↔ ((1 ≤ length words.now) × (length words.now < 2 ^ 58)
         × (length words.now ≡ length other.now)) }
-    ensures bounds { IsTrue result → Tells
+    ensures bounds { IsTrue result → TellsBounds
         (EstimatesCommon (64 * length words.now) (max 1 num_hashes) (ones_of_words words.now)
         (ones_of_words other.now) (ones_of_either_words words.now other.now)) low.new high.new }
     // A refusal tells nothing.

@@ -1,7 +1,7 @@
 //! How many items filters have that threads share, and how often they err, as they are. No copy of
 //! their words is made.
 ghost use Rattle.std.specs.Prelude.{◌≡◌, ◌↔◌, ◌≤◌, false, IsTrue, max};
-ghost use Rattle.fastbloom_c.specs.Estimates.{Tells, TellsPart};
+ghost use Rattle.fastbloom_c.specs.Estimates.{TellsBounds, TellsPart};
 ghost use Rattle.fastbloom_c.specs.Passed.{MakeFilter, vector_of};
 ghost use Rattle.fastbloom_c.specs.SharedRates.{BoundsWords, EstimatesWords};
 
@@ -74,7 +74,7 @@ pub extern "C" fn fastbloom_shared_estimate(
     high: &mut usize,
 ) -> bool
     ensures done { IsTrue result ↔ MakeFilter words.len }
-    ensures bounds { IsTrue result → Tells
+    ensures bounds { IsTrue result → TellsBounds
         (EstimatesWords (vector_of words.at words.len) (max 1 num_hashes)) low.new high.new }
     // A refusal tells nothing.
     ensures refused_low { result ≡ false → low.new ≡ 0 }

@@ -45,7 +45,7 @@ pub use Rattle.summaries_engine.specs.Fillers.{FillsMore, HasTaken}
 pub use Rattle.summaries_engine.specs.Inputs.{HashesInputs, HaveKeys, Lies, SummarizesInputs}
 pub use Rattle.summaries_engine.specs.Kinds.{HaveOneShape, HaveSameKind, IsFileOfKind, TellsEach, UnitesParts, has_hash, layout_of, parts_of}
 pub use Rattle.summaries_engine.specs.Named.{AreNamed, Named, StopsUniting}
-pub use Rattle.summaries_engine.specs.Refusals.{DiffersBy, Fits, too_long_text}
+pub use Rattle.summaries_engine.specs.Refusals.{DiffersBy, IsUnitable, too_long_text}
 pub use Rattle.summaries_engine.specs.Sizes.{HasSeed, IsClassicFor, IsEmpty, IsShapeOf, IsSizedFor}
 pub use Rattle.summaries_engine.specs.Stops.{IsBad, IsReasonAfter, IsUnwritten, Says, StopsAnswers, StopsHashing, StopsWriting}
 pub use Rattle.summaries_engine.specs.Summaries.{HaveSameKey, HaveSameKeys, IsFilled, IsSummaryOf, IsUnionOf, UnitesShards, hash_in, joined, positions_in}

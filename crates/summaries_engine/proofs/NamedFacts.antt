@@ -1,7 +1,7 @@
 -- Filters that have names, of one byte, which is the number of hashes of what lies under it: cases
 -- that hold, and the nearest that don't.
 use Rattle.std.proofs.Common.{◌≡◌, ℕ, List, [], ◌∷◌, ◌++◌, codes, length, length-append, inl, inr, refl, ap, arith}
-use Rattle.summaries_engine.proofs.Common.{All-nil, Error, Stop, Bad, AreNamed, StopsUniting, Fits, Says}
+use Rattle.summaries_engine.proofs.Common.{All-nil, Error, Stop, Bad, AreNamed, StopsUniting, IsUnitable, Says}
 use Rattle.summaries_engine.specs.declared.unions.Difference.TheVariants as difference
 use Rattle.summaries_engine.proofs.Cases.{counted, never, of_three, of_two}
 
@@ -35,7 +35,7 @@ module _ (said : Error) where
       name = 3 ∷ [];
       reaches =
           record { before = (2 ∷ []) ∷ []; after = []; are = refl; loaded = (refl, tt) };
-      fit = All-nil (Fits of_two);
+      fit = All-nil (IsUnitable of_two);
       failed = refl;
     })),
     λ says. inr (inr (record {
@@ -46,7 +46,7 @@ module _ (said : Error) where
       how = difference.Shape;
       reaches =
           record { before = (2 ∷ []) ∷ []; after = []; are = refl; loaded = (refl, tt) };
-      fit = All-nil (Fits of_two);
+      fit = All-nil (IsUnitable of_two);
       loaded = refl;
       differs = (refl, λ same. let wrong : 2 ≡ 3 = same.hashes in omega (arith, wrong));
       says = says;

@@ -1,14 +1,14 @@
 -- How filters differ: cases that hold, and the nearest that don't.
 use Rattle.std.proofs.Common.{◌≡◌, [], refl, ap, arith}
-use Rattle.summaries_engine.proofs.Common.{Whole, Lines, Classic, Blocked, DiffersBy, Fits}
+use Rattle.summaries_engine.proofs.Common.{Whole, Lines, Classic, Blocked, DiffersBy, IsUnitable}
 use Rattle.summaries_engine.specs.declared.unions.Difference.TheVariants as difference
 use Rattle.summaries_engine.proofs.Cases.{made_of, of_three, of_two}
 
 -- a filter fits itself, and none of another kind, shape or key
-fits : Fits of_two of_two
-    × (Fits of_two (Blocked (made_of [] 2 0 0)) → ⊥)
-    × (Fits of_two of_three → ⊥)
-    × (Fits of_two (Classic (made_of [] 2 1 0)) → ⊥)
+fits : IsUnitable of_two of_two
+    × (IsUnitable of_two (Blocked (made_of [] 2 0 0)) → ⊥)
+    × (IsUnitable of_two of_three → ⊥)
+    × (IsUnitable of_two (Classic (made_of [] 2 1 0)) → ⊥)
 fits = (
   record { kind = refl; shape = record { words = refl; hashes = refl }; key = refl },
   λ fits. let wrong : Whole ≡ Lines = fits.kind in cc,

@@ -1,7 +1,7 @@
 -- Filters that aren't united, and keys that are too long.
 use Rattle.std.proofs.Common.{◌≡◌, ℕ, ◌+◌, ◌-◌, ◌^◌, min, codes, decimal, arith, get_or, List, ◌∷◌, ◌++◌, Some, sym, subst, ◌∙◌}
 use Rattle.std.proofs.lemmas.Fmt.{decimal-digits_of}
-use Rattle.summaries_engine.proofs.Common.{All-head, All-tail, All, HasMessage, Error, AnyFilter, HaveSameKind, HaveOneShape, DiffersBy, Fits, too_long_text, HaveSameKey, IsUnionOf}
+use Rattle.summaries_engine.proofs.Common.{All-head, All-tail, All, HasMessage, Error, AnyFilter, HaveSameKind, HaveOneShape, DiffersBy, IsUnitable, too_long_text, HaveSameKey, IsUnionOf}
 use Rattle.summaries_engine.specs.declared.unions.Difference.{Difference}
 use Rattle.summaries_engine.specs.declared.unions.Difference.TheVariants as difference
 
@@ -15,7 +15,7 @@ shape-of whole first f fits has = record {
 
 -- the filters of a union fit the first of them
 pub union-fits : (first whole : AnyFilter) (others : List AnyFilter)
-    → IsUnionOf (first ∷ others) whole → All (Fits first) others
+    → IsUnionOf (first ∷ others) whole → All (IsUnitable first) others
 union-fits first whole others union = λ i d within. record {
   kind = sym (All-head (HaveSameKind whole) first others union.kind)
       ∙ All-tail (HaveSameKind whole) first others union.kind i d within;
@@ -27,7 +27,7 @@ union-fits first whole others union = λ i d within. record {
 }
 
 -- what differs from a filter differs from one that fits it
-differs-from : (first whole shard : AnyFilter) (how : Difference) → Fits whole first
+differs-from : (first whole shard : AnyFilter) (how : Difference) → IsUnitable whole first
     → DiffersBy whole shard how → DiffersBy first shard how
 differs-from first whole shard difference.Kind fits differs = λ has. differs (fits.kind ∙ has)
 differs-from first whole shard difference.Shape fits differs = (

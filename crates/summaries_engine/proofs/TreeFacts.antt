@@ -1,7 +1,7 @@
 -- Trees of unions: cases that hold, and the nearest that don't.
 use Rattle.std.proofs.Common.{◌≡◌, ℕ, true, false, ◌||◌, [], ◌∷◌, refl, ap, ◌∙◌}
 use Rattle.summaries_engine.proofs.Common.{chain, content, positions, sip, alike_below, content-case, content-past, positions_of_all, Classic, UnitesParts, IsSummaryOf}
-use Rattle.summaries_engine.specs.Trees.{Tree, Part, United, keys_of, Makes}
+use Rattle.summaries_engine.specs.Trees.{Tree, Part, United, keys_of, TreeMakes}
 use Rattle.summaries_engine.proofs.Cases.{filter, hash-a, hash-b, key_a, key_b, of_a, of_b, of_both, shape, summary-a, summary-b}
 use Rattle.summaries_engine.proofs.TreeLemmas.{tree_summary_law}
 
@@ -29,7 +29,7 @@ united one other word alike = record {
 }
 
 -- a tree with a part that comes twice makes the filter of both keys, and not that of "a" alone
-makes : Makes shape repeated of_both × (Makes shape repeated of_a → ⊥)
+makes : TreeMakes shape repeated of_both × (TreeMakes shape repeated of_a → ⊥)
 unfolding content positions chain
 makes = (
   (

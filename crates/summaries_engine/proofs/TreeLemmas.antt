@@ -1,7 +1,7 @@
 -- What a tree of unions makes, by the laws of filled filters.
 use Rattle.std.proofs.Common.{◌≡◌, ℕ, true, List, map, sym, subst, ◌∙◌, ap}
 use Rattle.summaries_engine.proofs.Common.{Contains, map-append, AreWords, key_of, sip, AnyCuttingLaw, FilledContainsLaw, EqualContentLaw, EqualityLaw, LineSubsetLaw, Shape, AnyFilter, HaveSameKind, has_hash, parts_of, HaveSameKey, HaveSameKeys, IsFilled, IsSummaryOf, hash_in}
-use Rattle.summaries_engine.specs.Trees.{Tree, Part, United, Makes, keys_of}
+use Rattle.summaries_engine.specs.Trees.{Tree, Part, United, TreeMakes, keys_of}
 use Rattle.summaries_engine.proofs.FilledLemmas.{Builder, filled-alike, filled-contains, filled-union}
 use Rattle.summaries_engine.proofs.ShardLemmas.{hash-of-key, hashes-same}
 
@@ -14,7 +14,7 @@ filled-under shape keys f made same filled =
 
 -- a union of two summaries is the summary of the keys of both
 pub tree_summary_law : (shape : Shape) (tree : Tree) (made : AnyFilter)
-    → Makes shape tree made → IsSummaryOf shape (keys_of tree) made
+    → TreeMakes shape tree made → IsSummaryOf shape (keys_of tree) made
 tree_summary_law shape (Part keys) made did = did
 tree_summary_law shape (United one other) made (f, g, of_one, of_other, kind, same, united) =
     let key : key_of (parts_of f).hasher ≡ key_of (parts_of made).hasher =
@@ -30,7 +30,7 @@ tree_summary_law shape (United one other) made (f, g, of_one, of_other, kind, sa
 -- filters that are filled with the same hashes are equal
 pub any_parts_law : EqualityLaw Builder → EqualContentLaw Builder → AnyCuttingLaw Builder
     → (shape : Shape) (tree : Tree) (keys : List (List ℕ)) (made whole : AnyFilter)
-    → Makes shape tree made → IsSummaryOf shape keys whole
+    → TreeMakes shape tree made → IsSummaryOf shape keys whole
     → AreWords (parts_of made).words → AreWords (parts_of whole).words
     → HaveSameKind whole made → HaveSameKey whole made → HaveSameKeys (keys_of tree) keys
     → ((parts_of made).words ≡ (parts_of whole).words)
@@ -45,7 +45,7 @@ any_parts_law equality contents cutting shape tree keys made whole did filled wo
 -- a filter that is filled with hashes contains them
 pub any_part_found_law : FilledContainsLaw Builder → LineSubsetLaw
     → (shape : Shape) (tree : Tree) (made : AnyFilter) (key : List ℕ)
-    → Makes shape tree made → Contains (keys_of tree) key
+    → TreeMakes shape tree made → Contains (keys_of tree) key
     → has_hash made (hash_in made key) ≡ true
 any_part_found_law contains_all subset shape tree made key did given =
     filled-contains contains_all subset shape made (map (hash_in made) (keys_of tree))

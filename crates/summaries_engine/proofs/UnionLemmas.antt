@@ -1,7 +1,7 @@
 -- Filters that are united, and the keys of which they are summaries.
 use Rattle.std.proofs.Common.{◌≡◌, ℕ, Bool, false, ◌||◌, List, [], ◌∷◌, ◌++◌, get_or, map, refl, sym, ◌∙◌, ap}
 use Rattle.std.proofs.Math.Bool.{or_comm}
-use Rattle.summaries_engine.proofs.Common.{map-append, All-append, All-from_recursion, All-head, All-tail, list_any-append, list_any, All, content, key_of, sip, Shape, AnyFilter, HaveSameKind, HaveOneShape, UnitesParts, layout_of, parts_of, Fits}
+use Rattle.summaries_engine.proofs.Common.{map-append, All-append, All-from_recursion, All-head, All-tail, list_any-append, list_any, All, content, key_of, sip, Shape, AnyFilter, HaveSameKind, HaveOneShape, UnitesParts, layout_of, parts_of, IsUnitable}
 use Rattle.summaries_engine.specs.Summaries.{AreSummariesOf, HaveSameKey, IsSummaryOf, IsUnionOf, hash_in, joined, positions_in}
 use Rattle.summaries_engine.proofs.FilledLemmas.{positions-append, positions-none}
 
@@ -19,7 +19,7 @@ union-first f = record {
 
 -- one filter more, of the same kind, shape and key
 pub union-next : (filters : List AnyFilter) (old other new : AnyFilter)
-    → IsUnionOf filters old → Fits old other → UnitesParts old other new
+    → IsUnionOf filters old → IsUnitable old other → UnitesParts old other new
     → IsUnionOf (filters ++ other ∷ []) new
 union-next filters old other new so_far fits united =
     let key : key_of (parts_of new).hasher ≡ key_of (parts_of old).hasher =

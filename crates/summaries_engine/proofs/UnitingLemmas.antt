@@ -1,6 +1,6 @@
 -- Filters that lie under names, loaded and united one after the other.
 use Rattle.std.proofs.Common.{◌≡◌, ℕ, List, [], ◌∷◌, ◌++◌, get_or, inl, inr, sym, subst, ap}
-use Rattle.summaries_engine.proofs.Common.{AreWords, AnyCuttingLaw, FilledContainsLaw, EqualContentLaw, EqualityLaw, LineSubsetLaw, AnyFilter, Stop, UnitesParts, parts_of, DiffersBy, Fits, IsBad, Says, IsUnionOf, UnitesShards}
+use Rattle.summaries_engine.proofs.Common.{AreWords, AnyCuttingLaw, FilledContainsLaw, EqualContentLaw, EqualityLaw, LineSubsetLaw, AnyFilter, Stop, UnitesParts, parts_of, DiffersBy, IsUnitable, IsBad, Says, IsUnionOf, UnitesShards}
 use Rattle.summaries_engine.specs.declared.unions.Difference.{Difference}
 use Rattle.summaries_engine.specs.Named.{AreNamed, LoadedBefore, Named, StopsUniting, misfit_text}
 use Rattle.summaries_engine.proofs.FilledLemmas.{Builder}
@@ -33,8 +33,9 @@ module _ (has : Named) (first : List ℕ) where
 
   module _ {others : List (List ℕ)} {whole : AnyFilter} (so_far : IsUniting others whole) where
     -- one more, which fits
-    pub uniting-next : (name : List ℕ) {shard new : AnyFilter} → has name shard → Fits whole shard
-        → UnitesParts whole shard new → IsUniting (others ++ name ∷ []) new
+    pub uniting-next : (name : List ℕ) {shard new : AnyFilter} → has name shard
+        → IsUnitable whole shard → UnitesParts whole shard new
+        → IsUniting (others ++ name ∷ []) new
     uniting-next name {shard = shard} {new = new} there fits unites =
         let all = so_far.filter ∷ so_far.filters in record {
           filter = so_far.filter;

@@ -17,7 +17,7 @@ use Rattle.summaries_engine.specs.declared.kinds.AnyFilter.TheVariants.{Classic,
 use Rattle.summaries_engine.specs.declared.stop.Stop.{Stop}
 use Rattle.summaries_engine.specs.Facts.{items_text}
 use Rattle.summaries_engine.specs.Named.{Named, StopsUniting}
-use Rattle.summaries_engine.specs.Refusals.{Fits}
+use Rattle.summaries_engine.specs.Refusals.{IsUnitable}
 use Rattle.summaries_engine.specs.Stops.{IsMemory}
 
 -- the lower bound of a part, in hundredths of a percent, rounded down
@@ -88,7 +88,7 @@ pub record ComparesNamed (has : Named) (one other : List ℕ) (text : List ℕ) 
   pub second : AnyFilter
   pub is_first : has one first
   pub is_second : has other second
-  pub fits : Fits first second
+  pub fits : IsUnitable first second
   pub tells : TellsTwo first second text
 
 -- two filters aren't compared: memory was out, or they couldn't be united

@@ -4,7 +4,7 @@ use Rattle.summaries_engine.specs.declared.kinds.AnyFilter.{AnyFilter}
 use Rattle.summaries_engine.specs.declared.stop.Stop.{Stop}
 use Rattle.summaries_engine.specs.declared.unions.Difference.{Difference}
 use Rattle.summaries_engine.specs.declared.unions.Difference.TheVariants as difference
-use Rattle.summaries_engine.specs.Refusals.{DiffersBy, Fits}
+use Rattle.summaries_engine.specs.Refusals.{DiffersBy, IsUnitable}
 use Rattle.summaries_engine.specs.Stops.{IsBad, Says}
 
 -- which filters lie under which names
@@ -29,7 +29,7 @@ pub record LoadedBefore (has : Named) (names : List (List ℕ)) (filters : List 
 -- the filters behind the first fit it
 abbrev pub FitFirst : List AnyFilter → Type 0
 FitFirst [] = ⊤
-FitFirst (first ∷ others) = All (Fits first) others
+FitFirst (first ∷ others) = All (IsUnitable first) others
 
 -- filters that fit the first lie under the names before one, which fails
 pub record StopsUnloaded (has : Named) (fails : List ℕ → Stop → Type 0)
@@ -56,7 +56,7 @@ pub record StopsAtMisfit (has : Named) (names : List (List ℕ)) (stop : Stop) :
   pub shard : AnyFilter
   pub how : Difference
   pub reaches : LoadedBefore has names (first ∷ filters) name
-  pub fit : All (Fits first) filters
+  pub fit : All (IsUnitable first) filters
   pub loaded : has name shard
   pub differs : DiffersBy first shard how
   pub says : IsBad (Says (misfit_text how name (get_or names 0 []))) stop

@@ -8,7 +8,7 @@ use Rattle.summaries_engine.specs.Kinds.{HaveSameKind, HaveOneShape}
 use Rattle.summaries_engine.specs.Summaries.{HaveSameKey}
 
 -- a filter has the kind, the shape and the key of the first
-pub record Fits (first f : AnyFilter) : Type 0 where
+pub record IsUnitable (first f : AnyFilter) : Type 0 where
   pub kind : HaveSameKind first f
   pub shape : HaveOneShape first f
   pub key : HaveSameKey first f

@@ -20,8 +20,8 @@ keys_of (United one other) = keys_of one ++ keys_of other
 
 -- a tree made this filter: of one part it is the summary, and of two trees the union of what they
 -- made, of one kind and under one key
-abbrev pub Makes : Shape → Tree → AnyFilter → Type 0
-Makes shape (Part keys) made = IsSummaryOf shape keys made
-Makes shape (United one other) made =
-    (f : AnyFilter) × (g : AnyFilter) × Makes shape one f × Makes shape other g
+abbrev pub TreeMakes : Shape → Tree → AnyFilter → Type 0
+TreeMakes shape (Part keys) made = IsSummaryOf shape keys made
+TreeMakes shape (United one other) made =
+    (f : AnyFilter) × (g : AnyFilter) × TreeMakes shape one f × TreeMakes shape other g
     × HaveSameKind f g × HaveSameKey f g × UnitesParts f g made

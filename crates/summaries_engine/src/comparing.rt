@@ -3,7 +3,7 @@ ghost use Rattle.std.specs.Prelude.{◌≡◌, IfErr, IfOk, string_bytes};
 ghost use Rattle.fastbloom.specs.Filter.{SameShape};
 ghost use Rattle.fastbloom.specs.Ones.{ones_of, ones_of_either};
 ghost use Rattle.summaries_engine.specs.Comparing.{ComparesNamed, StopsComparing, TellsBoth, TellsTwo, bits_text, compared_text, least_share, likeness_text, most_share, ones_of_both};
-ghost use Rattle.summaries_engine.specs.Refusals.{Fits};
+ghost use Rattle.summaries_engine.specs.Refusals.{IsUnitable};
 
 use crate::facts::items_of;
 use crate::kinds::AnyFilter;
@@ -137,7 +137,7 @@ pub fn compared_blocked(
 
 // The lines that tell two filters of one kind and shape.
 fn lines_of_two(alloc: Global, first: &AnyFilter, second: &AnyFilter) -> Result<String, AllocError>
-    requires { Fits first.now second.now }
+    requires { IsUnitable first.now second.now }
     ensures { IfOk result (λ text. TellsTwo first.now second.now (string_bytes text)) }
 {
     match first {

@@ -6,7 +6,7 @@ ghost use Rattle.fastbloom.specs.declared.parallel.shape.Shape.{Shape};
 ghost use Rattle.summaries_engine.specs.declared.kinds.AnyFilter.{AnyFilter};
 ghost use Rattle.summaries_engine.specs.Kinds.{HaveSameKind, has_hash, parts_of};
 ghost use Rattle.summaries_engine.specs.Summaries.{HaveSameKey, HaveSameKeys, IsSummaryOf, hash_in};
-ghost use Rattle.summaries_engine.specs.Trees.{Makes, Tree, keys_of};
+ghost use Rattle.summaries_engine.specs.Trees.{TreeMakes, Tree, keys_of};
 
 use fastbloom::DefaultHasher;
 use fastbloom::blocked_laws::test_of_hash;
@@ -16,16 +16,16 @@ use fastbloom::laws::{equality_of_filters, fill_of_any_cutting, filled_contains}
 /// number and nesting the parts come. So a part that is done again changes nothing.
 pub fn union_of_any_parts()
     ensures summary { (shape : Shape) (tree : Tree) (made : AnyFilter)
-        → Makes shape tree made → IsSummaryOf shape (keys_of tree) made }
+        → TreeMakes shape tree made → IsSummaryOf shape (keys_of tree) made }
     // The words are those of any filter of the same keys and kind, of which none is left out.
     ensures same { (shape : Shape) (tree : Tree) (keys : List (List ℕ)) (made whole : AnyFilter)
-        → Makes shape tree made → IsSummaryOf shape keys whole
+        → TreeMakes shape tree made → IsSummaryOf shape keys whole
         → AreWords (parts_of made).words → AreWords (parts_of whole).words
         → HaveSameKind whole made → HaveSameKey whole made → HaveSameKeys (keys_of tree) keys
         → ((parts_of made).words ≡ (parts_of whole).words)
         × ((parts_of made).hashes ≡ (parts_of whole).hashes) }
     ensures found { (shape : Shape) (tree : Tree) (made : AnyFilter) (key : List ℕ)
-        → Makes shape tree made → Contains (keys_of tree) key
+        → TreeMakes shape tree made → Contains (keys_of tree) key
         → has_hash made (hash_in made key) ≡ true }
 {
     equality_of_filters::<DefaultHasher>();

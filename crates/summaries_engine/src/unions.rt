@@ -1,7 +1,7 @@
 //! Two filters, compared and united.
 ghost use Rattle.std.specs.Prelude.{◌≡◌, IfErr, OnOk, OnErr};
 ghost use Rattle.summaries_engine.specs.Kinds.{UnitesParts};
-ghost use Rattle.summaries_engine.specs.Refusals.{DiffersBy, Fits};
+ghost use Rattle.summaries_engine.specs.Refusals.{DiffersBy, IsUnitable};
 
 use crate::kinds::AnyFilter;
 
@@ -22,7 +22,7 @@ pub enum Difference {
 /// `Kind` where the kinds differ, else `Shape` where the shapes do, and else `Key` where the keys
 /// do.
 pub fn check_fit(first: &AnyFilter, other: &AnyFilter) -> Result<(), Difference>
-    ensures fits { OnOk result (Fits first.now other.now) }
+    ensures fits { OnOk result (IsUnitable first.now other.now) }
     ensures differs { IfErr result (DiffersBy first.now other.now) }
 {
     if !first.same_kind(other) {
@@ -44,7 +44,7 @@ pub fn check_fit(first: &AnyFilter, other: &AnyFilter) -> Result<(), Difference>
 /// do.
 pub fn add(whole: &mut AnyFilter, shard: &AnyFilter) -> Result<(), Difference>
     ensures unites { OnOk result (UnitesParts whole.old shard.now whole.new) }
-    ensures fits { OnOk result (Fits whole.old shard.now) }
+    ensures fits { OnOk result (IsUnitable whole.old shard.now) }
     // A refusal leaves the whole as it was.
     ensures differs { IfErr result (DiffersBy whole.old shard.now) }
     ensures kept { OnErr result (whole.new ≡ whole.old) }

@@ -5,7 +5,7 @@ ghost use Rattle.bloom_parts.specs.declared.math.rate.Rate.{Rate};
 ghost use Rattle.bloom_parts.specs.Rates.{num_of, den_of};
 ghost use Rattle.bloom_plain.specs.Builders.{RefusesAs};
 ghost use Rattle.bloom_growing.specs.Growing as growing;
-ghost use Rattle.bloom_growing.specs.Growing.{IsKeyed, IsMadeAs, IsNext, rate_start, setup_of};
+ghost use Rattle.bloom_growing.specs.Growing.{HasSomeKey, IsMadeAs, IsNextRate, rate_start, setup_of};
 ghost use Rattle.bloom_growing.specs.GrowingInserts.{RefusesNumber};
 ghost use Rattle.bloom_growing.specs.Kinds.{IsMadeIn, IsSizeIn, size_refusal_in};
 ghost use Rattle.bloom_growing.specs.declared.growing.error.GrowingError.TheVariants.{RateOverflow};
@@ -33,7 +33,7 @@ fn half(rate: Rate) -> Result<Rate, GrowingError>
 
 // Another hasher with the same key.
 fn copy_of(hasher: &DefaultHasher) -> DefaultHasher
-    requires { IsKeyed hasher.now }
+    requires { HasSomeKey hasher.now }
     ensures { result ≡ hasher.now }
 {
     let (k0, k1) = hasher.key();
@@ -47,7 +47,7 @@ fn make<F: GrowableFilter>(
     items: usize,
     hasher: &DefaultHasher,
 ) -> Result<F, FilterError>
-    requires { IsKeyed hasher.now }
+    requires { HasSomeKey hasher.now }
     ensures made { IfOk result (λ filter.
         IsMadeIn F.kind (rate_start rate hasher.now) items (F.seen filter)) }
     ensures refused { (bits : ℕ) × IsSizeIn F.kind (max 1 items) (num_of rate) (den_of rate) bits
@@ -63,11 +63,11 @@ pub(crate) fn make_next<F: GrowableFilter>(
     room: Option<usize>,
     hasher: &DefaultHasher,
 ) -> Result<(F, Rate, usize), GrowingError>
-    requires { IsKeyed hasher.now }
-    ensures made { (rate : Rate) (first i : ℕ) → IsNext rate first i last room
+    requires { HasSomeKey hasher.now }
+    ensures made { (rate : Rate) (first i : ℕ) → IsNextRate rate first i last room
         → IfOk result (λ made. IsMadeAs F.kind (setup_of rate first hasher.now) i
         (F.seen made.0) made.1 made.2) }
-    ensures refused { (rate : Rate) (first i : ℕ) → IsNext rate first i last room
+    ensures refused { (rate : Rate) (first i : ℕ) → IsNextRate rate first i last room
         → RefusesNumber F.kind rate first i (result_err result) }
 {
     let rate = half(last)?;
