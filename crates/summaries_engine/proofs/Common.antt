@@ -37,7 +37,7 @@ unfoldable pub use Rattle.std.specs.Fmt.{char_count, digits, padded_integral}
 pub use Rattle.std.specs.Io.KnownBytes.{Appends, Keeps}
 pub use Rattle.std.specs.List.{Contains, list_any, starts_with}
 pub use Rattle.std.specs.Prelude.{All, IfOk, Result, if◌then◌else◌, nat_eq, nat_le, slice_index_or, ◌&&◌}
-pub use Rattle.summaries_engine.specs.Answers.{AnswersAll, HashesAll, IsKeyed, is_wanted, wanted_text}
+pub use Rattle.summaries_engine.specs.Answers.{IsKeyed, WritesWanted, is_wanted, wanted_text}
 pub use Rattle.summaries_engine.specs.Batches.{AnswersFirst, AnswersPart, CutsKeys, HashesFirst}
 pub use Rattle.summaries_engine.specs.Comparing.{TellsBoth}
 pub use Rattle.summaries_engine.specs.Crews.{HoldTogether, InsertParts}
@@ -47,7 +47,7 @@ pub use Rattle.summaries_engine.specs.Kinds.{HaveOneShape, HaveSameKind, IsFileO
 pub use Rattle.summaries_engine.specs.Named.{AreNamed, Named, StopsUniting}
 pub use Rattle.summaries_engine.specs.Refusals.{DiffersBy, IsUnitable, too_long_text}
 pub use Rattle.summaries_engine.specs.Sizes.{HasSeed, IsClassicFor, IsEmpty, IsShapeOf, IsSizedFor}
-pub use Rattle.summaries_engine.specs.Stops.{IsBad, IsReasonAfter, IsUnwritten, Says, StopsAnswers, StopsHashing, StopsWriting}
+pub use Rattle.summaries_engine.specs.Stops.{IsBad, IsReasonAfter, IsUnwritten, Says, StopsAnswers}
 pub use Rattle.summaries_engine.specs.Summaries.{HaveSameKey, HaveSameKeys, IsFilled, IsSummaryOf, IsUnionOf, UnitesShards, hash_in, joined, positions_in}
 pub use Rattle.summaries_engine.specs.declared.answers.Wanted.{Wanted}
 pub use Rattle.summaries_engine.specs.declared.form.Form.{Form}

@@ -23,7 +23,6 @@ mod SealLemmas
 mod ShardLemmas
 mod SizeFacts
 mod StopFacts
-mod StopLemmas
 mod SummaryFacts
 mod TextFacts
 mod TreeFacts
@@ -31,4 +30,3 @@ mod TreeLemmas
 mod UnionLemmas
 mod UnitingLemmas
 mod UnloadedLemmas
-mod WaitingKeyLemmas

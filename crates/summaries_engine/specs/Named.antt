@@ -14,9 +14,8 @@ Named = List ℕ → AnyFilter → Type 0
 -- each filter lies under the name with its index, and there are no others
 abbrev pub AreNamed : Named → List (List ℕ) → List AnyFilter → Type 0
 AreNamed has [] [] = ⊤
-AreNamed has [] (f ∷ filters) = ⊥
-AreNamed has (name ∷ names) [] = ⊥
 AreNamed has (name ∷ names) (f ∷ filters) = has name f × AreNamed has names filters
+AreNamed has names filters = ⊥
 
 -- these filters lie under the names before this one
 pub record LoadedBefore (has : Named) (names : List (List ℕ)) (filters : List AnyFilter)

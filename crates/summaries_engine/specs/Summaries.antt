@@ -39,10 +39,9 @@ IsSummaryOf shape keys f = IsFilled shape (map (hash_in f) keys) f
 -- each filter is the summary of its part of the keys
 abbrev pub AreSummariesOf : Shape → List (List (List ℕ)) → List AnyFilter → Type 0
 AreSummariesOf shape [] [] = ⊤
-AreSummariesOf shape [] (f ∷ filters) = ⊥
-AreSummariesOf shape (keys ∷ parts) [] = ⊥
 AreSummariesOf shape (keys ∷ parts) (f ∷ filters) =
     IsSummaryOf shape keys f × AreSummariesOf shape parts filters
+AreSummariesOf shape parts filters = ⊥
 
 -- the keys of all parts
 abbrev pub joined : List (List (List ℕ)) → List (List ℕ)
