@@ -1,7 +1,7 @@
 -- Keys at the front of some bytes, cut off one after the other, their hashes and their answers.
 use Rattle.std.proofs.Common.{◌≡◌, ℕ, suc, ◌+◌, ◌<◌, ◌≤◌, Bool, get_or, List, [], ◌∷◌, ◌++◌, map, length, length-append, take, Option, refl, sym, ◌∙◌, ap, append_assoc, arith}
 use Rattle.std.proofs.Math.Seq.{take-suc-set}
-use Rattle.summaries_engine.proofs.Common.{map-append, All-append, All-from_recursion, All-nil, content, Appends, sip, lines_by, AppendsPart, Wanted, AnyFilter, TellsEach, has_hash, hash_in}
+use Rattle.summaries_engine.proofs.Common.{map-append, All-nil, All-push, content, Appends, sip, lines_by, AppendsPart, Wanted, AnyFilter, TellsEach, has_hash, hash_in}
 use Rattle.std.proofs.Math.ListN.{set}
 use Rattle.std.proofs.lemmas.Bool.{lt-ltb}
 use Rattle.std.specs.Prelude.{◌&&◌}
@@ -39,8 +39,7 @@ cuts-more {end = end} {keys = keys} {key = key} {others = others} so_far next =
           ∙ ap (λ l. keys ++ l) is_line;
       ended =
           IsEnded-append end so_far.taken line so_far.ended (IsEnded-line end key next.inside);
-      short = All-append (λ k. length k ≤ 65536) keys (key ∷ []) so_far.short
-          (All-from_recursion (λ k. length k ≤ 65536) (key ∷ []) (next.short, tt));
+      short = All-push (λ k. length k ≤ 65536) keys key so_far.short next.short;
     }
 
 -- all lines are these keys and those behind them

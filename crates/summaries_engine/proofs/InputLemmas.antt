@@ -1,20 +1,11 @@
 -- Inputs whose keys were read one after the other.
-use Rattle.std.proofs.Common.{◌≡◌, ◌<◌, ◌≤◌, ℕ, ◌+◌, inl, inr, List, [], ◌∷◌, ◌++◌, length, get_or, take, Bor, Option, sym, subst, ◌∙◌, ap, append-nil}
+use Rattle.std.proofs.Common.{◌≡◌, ◌<◌, ◌≤◌, ℕ, ◌+◌, List, [], ◌∷◌, ◌++◌, length, get_or, take, Bor, Option, sym, subst, ◌∙◌, ap, append-nil}
 use Rattle.std.proofs.Math.Logic.{⊎_map}
 use Rattle.summaries_engine.proofs.Common.{flat_map-append, AnyFilter, Wanted, Stop, StopsAnswers, WritesWanted, joined}
 use Rattle.summaries_engine.specs.Answers.{ReadsAll}
-use Rattle.summaries_engine.specs.Inputs.{HasKeys, HaveKeys, Lies, ReadsInputs, StopsAt}
+use Rattle.summaries_engine.specs.Inputs.{HasKeys, Lies, ReadsInputs, StopsAt}
 use Rattle.summaries_engine.proofs.AskingLemmas.{writes-more, writes-part}
-use Rattle.summaries_engine.proofs.NameLemmas.{names-all, names-from, next-name, texts}
-
--- all keys of one input more
-HaveKeys-more : (lies : Lies) (end : ℕ) (names : List (List ℕ)) (name : List ℕ)
-    (parts : List (List (List ℕ))) (keys : List (List ℕ)) → HaveKeys lies end names parts
-    → HasKeys lies end name keys → HaveKeys lies end (names ++ name ∷ []) (parts ++ keys ∷ [])
-HaveKeys-more lies end [] name [] keys so_far one = (one, tt)
-HaveKeys-more lies end (first ∷ names) name (part ∷ parts) keys so_far one =
-    (so_far.0, HaveKeys-more lies end names name parts keys so_far.1 one)
-HaveKeys-more lies end names name parts keys so_far one = absurd so_far
+use Rattle.summaries_engine.proofs.NameLemmas.{AllZip-more, names-all, names-from, next-name, texts}
 
 -- the keys of one part more
 joined-more : (parts : List (List (List ℕ))) (keys : List (List ℕ))
@@ -42,8 +33,8 @@ module _ {lies : Lies} {end : ℕ} (names : List (Bor (List ℕ))) (count : ℕ)
   inputs-more {read = read} {left = left} {More = More} there all done =
       subst (λ l. ReadsInputs lies end l More) (sym (next-name names count other within)) (record {
         parts = so_far.parts ++ all.keys ∷ [];
-        keys = HaveKeys-more lies end (take count (texts names)) (get_or names count other).now
-            so_far.parts all.keys so_far.keys (record {
+        keys = AllZip-more (HasKeys lies end) (take count (texts names)) so_far.parts
+            (get_or names count other).now all.keys so_far.keys (record {
               read = read;
               left = left;
               there = there;

@@ -5,7 +5,7 @@ use Rattle.lines.specs.Lines.{IsEndedBy}
 use Rattle.lines.specs.Reading.{TakesLongBy}
 use Rattle.lines.proofs.LineLemmas.{IsEnded-append, lines_by-nil}
 use Rattle.lines.proofs.TakenLemmas.{IsReadFrom-taken, IsReadToLong-from, IsReadWhole-from, TakesLinesBy, TakesLines-more, TakesLines-nil, nil-back, nil-front}
-use Rattle.summaries_engine.proofs.Common.{map-append, length-map, lines_by, All-append, All-from_recursion, All-nil, IfOk, Result, sip, Waiting, AreShort, Ends, KnowsEnd, TakesShortBy, left_of, CutsKeys, HashesFirst, HasTaken, IsBad, IsReasonAfter, Says, Stop, too_long_text}
+use Rattle.summaries_engine.proofs.Common.{map-append, length-map, lines_by, All-append, All-nil, All-push, IfOk, Result, sip, Waiting, AreShort, Ends, KnowsEnd, TakesShortBy, left_of, CutsKeys, HashesFirst, HasTaken, IsBad, IsReasonAfter, Says, Stop, too_long_text}
 use Rattle.summaries_engine.specs.Answers.{ReadsAll, ReadsFirst}
 use Rattle.summaries_engine.specs.Fillers.{TakesKeys}
 
@@ -91,9 +91,8 @@ module _ {end : ℕ} {read left : Option (List ℕ)} {old : Waiting} {number : �
         so_far.taken next.takes;
     knows = knows;
     longest = same ∙ so_far.longest;
-    short = All-append (λ key. length key ≤ 65536) so_far.keys (new.line ∷ []) so_far.short
-        (All-from_recursion (λ key. length key ≤ 65536) (new.line ∷ [])
-        (subst (λ n. length new.line ≤ n) so_far.longest next.short, tt));
+    short = All-push (λ key. length key ≤ 65536) so_far.keys new.line so_far.short
+        (subst (λ n. length new.line ≤ n) so_far.longest next.short);
     counted = simp length-append (omega (arith, so_far.counted));
     done = done;
   }

@@ -19,7 +19,6 @@ mod NameLemmas
 mod NamedFacts
 mod RefusalFacts
 mod RefusalLemmas
-mod SealLemmas
 mod ShardLemmas
 mod SizeFacts
 mod StopFacts

@@ -1,9 +1,8 @@
 -- What is read of keys, and what is written of a filter's replies. A key is a line without its end,
 -- which the byte `end` ends.
-use Rattle.std.specs.Prelude.{◌≡◌, ℕ, Bool, not, List, [], ◌∷◌, ◌++◌, if◌then◌else◌, map, filter, flat_map, Option}
+use Rattle.std.specs.Prelude.{ℕ, Bool, not, List, [], ◌∷◌, ◌++◌, if◌then◌else◌, filter, flat_map, Option}
 use Rattle.std.specs.Io.KnownBytes.{Appends}
 use Rattle.bloom_parts.specs.Keys.{HasKey, key_of}
-use Rattle.bloom_parts.specs.Sip.{sip}
 use Rattle.lines.specs.Reading.{AreShort, IsReadFromBy, IsReadWholeBy}
 use Rattle.summaries_engine.specs.declared.answers.Wanted.{Wanted}
 use Rattle.summaries_engine.specs.declared.answers.Wanted.TheVariants.{Found, Absent}

@@ -1,6 +1,7 @@
 -- Keys that lie in several inputs, which have names, as files do. A name is its list of bytes, and
 -- the byte `end` ends a key. These definitions are this project's own.
-use Rattle.std.specs.Prelude.{◌≡◌, ◌⊎◌, ℕ, List, [], ◌∷◌, ◌++◌, Option, ⊤, map}
+use Rattle.std.specs.Prelude.{◌≡◌, ◌⊎◌, ℕ, List, ◌∷◌, ◌++◌, Option, map}
+use Rattle.std.specs.List.{AllZip}
 use Rattle.bloom_parts.specs.Sip.{sip}
 use Rattle.fastbloom.specs.declared.parallel.shape.Shape.{Shape}
 use Rattle.lines.specs.Reading.{AreShort, IsReadWholeBy}
@@ -25,10 +26,7 @@ pub record HasKeys (lies : Lies) (end : ℕ) (name : List ℕ) (keys : List (Lis
 
 -- each list has all keys of the input whose name has the same index, and there are no others
 abbrev pub HaveKeys : Lies → ℕ → List (List ℕ) → List (List (List ℕ)) → Type 0
-HaveKeys lies end [] [] = ⊤
-HaveKeys lies end (name ∷ names) (keys ∷ parts) =
-    HasKeys lies end name keys × HaveKeys lies end names parts
-HaveKeys lies end names parts = ⊥
+HaveKeys lies end names parts = AllZip (HasKeys lies end) names parts
 
 -- these are all keys of all inputs, and this was done with them
 pub record ReadsInputs (lies : Lies) (end : ℕ) (names : List (List ℕ))
@@ -53,7 +51,7 @@ abbrev pub SummarizesInputs : Lies → ℕ → List (List ℕ) → Shape → Any
 SummarizesInputs lies end names shape f =
     ReadsInputs lies end names (λ keys. IsSummaryOf shape keys f)
 
--- a run took all keys of the inputs before this name, of which `Within` holds
+-- a run took all keys of the inputs before this name, and `Within` holds of the name and these
 pub record StopsAt (lies : Lies) (end : ℕ) (names : List (List ℕ))
     (Within : List ℕ → List (List ℕ) → Type 0) : Type 0 where
   pub before : List (List ℕ)

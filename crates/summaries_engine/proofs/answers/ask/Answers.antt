@@ -18,8 +18,12 @@ returns-in_err-ask_input-clause-stops g c =
     let is : c.from_residual-in_err-ask_input.result ≡ Err cut.field-0.0 = search rules in
     rw is
     (stops-at c.args.names.now c.names.name-index _ c.names-test.true c.names.invariant
-    (inr (_, c.in_ok-input.ensures.opened, stops-after _ cut.field-0.0 c.names.invariant.done
-    cut.ensures.stops)))
+    (inr (
+      _,
+      c.in_ok-input.ensures.opened,
+      stops-after _ cut.field-0.0 c.names.invariant.done
+          cut.ensures.stops,
+    )))
 
 -- one input more
 pub names-preserved : goal.names-preserved
