@@ -1,14 +1,14 @@
--- Keys of one input that are asked for one after the other, with the answers written so far.
-use Rattle.std.proofs.Common.{◌≡◌, ℕ, ◌+◌, Bool, false, List, [], ◌∷◌, ◌++◌, filter, flat_map, Ok, Err, Option, refl, sym, subst}
-use Rattle.summaries_engine.proofs.Common.{flat_map-append, Appends-kept, Appends-nil, Appends-trans, Appends, Keeps, AnyFilter, has_hash, Waiting, Ends, KnowsEnd, TakesShortBy, left_of, AppendsPart, IsReadWhole-from, Wanted, AnswersAll, is_wanted, wanted_text, hash_in}
+-- Keys that are asked for one after the other, and the replies that were written so far.
+use Rattle.std.proofs.Common.{◌≡◌, inl, inr, ℕ, ◌+◌, Bool, true, false, List, [], ◌∷◌, ◌++◌, filter, flat_map, Ok, Err, Option, refl, sym, subst, ◌∙◌, ap, append-nil}
 use Rattle.std.proofs.lemmas.List.Elements.{filter-append}
-use Rattle.std.proofs.Common.{◌∙◌, ap, length}
-use Rattle.std.specs.Prelude.{IfOk, OnOk, Result}
+use Rattle.std.specs.Prelude.{OnOk, Result, if◌then◌else◌}
 use Rattle.lines.proofs.WritingLemmas.{Begins-whole}
-use Rattle.summaries_engine.proofs.KeyLemmas.{HasRead, one-more, read-next, read-none}
+use Rattle.summaries_engine.proofs.Common.{flat_map-append, Appends-kept, Appends-nil, Appends-trans, Appends, Keeps, AnyFilter, has_hash, Waiting, AppendsPart, part-second, Wanted, AnswersFirst, AnswersPart, IsReasonAfter, IsUnwritten, Stop, StopsAnswers, WritesWanted, is_wanted, wanted_text, hash_in}
+use Rattle.summaries_engine.specs.Answers.{reply_text}
+use Rattle.summaries_engine.proofs.KeyLemmas.{HasRead, read-first, read-front}
 
 -- the text of further keys
-pub wanted_text-append : (f : AnyFilter) (wanted : Wanted) (end : ℕ) (keys more : List (List ℕ))
+wanted_text-append : (f : AnyFilter) (wanted : Wanted) (end : ℕ) (keys more : List (List ℕ))
     → wanted_text f wanted end (keys ++ more)
     ≡ wanted_text f wanted end keys ++ wanted_text f wanted end more
 wanted_text-append f wanted end keys more =
@@ -17,86 +17,124 @@ wanted_text-append f wanted end keys more =
     ap (flat_map line) (filter-append tells keys more)
     ∙ flat_map-append line (filter tells keys) (filter tells more)
 
--- a text that was written whole is a beginning of itself
-pub part-whole : (text : List ℕ) (from to : Option (List ℕ)) → Appends from to text
-    → AppendsPart text from to
-part-whole text from to wrote = record {
-  written = text;
-  appended = wrote;
-  begins = Begins-whole text text refl;
-}
-
--- the keys so far were answered
-pub record IsAnswering (f : AnyFilter) (wanted : Wanted) (end : ℕ) (read : Option (List ℕ))
-    (reader : Waiting) (left : Option (List ℕ)) (number : ℕ) (from to : Option (List ℕ)) : Type 0
-  where
-    pub keys : List (List ℕ)
-    pub has_read : HasRead end read reader left keys
-    pub counted : number ≡ length keys
-    pub text : Appends from to (wanted_text f wanted end keys)
-
--- no key yet
-pub answering-none : {f : AnyFilter} (wanted : Wanted) (end : ℕ) {E : Type 0}
-    {read from : Option (List ℕ)} {result : Result Waiting E} {reader : Waiting}
-    → result ≡ Ok reader → IfOk result (λ new. new.bytes ≡ [])
-    → IfOk result (λ new. new.ended ≡ false) → IfOk result (λ new. new.longest ≡ 65536)
-    → IsAnswering f wanted end read reader read 0 from from
-answering-none wanted end {from = from} made empty opened longest = record {
-  keys = [];
-  has_read = read-none end made empty opened longest;
-  counted = refl;
-  text = Appends-nil from;
-}
-
--- one key more, whose answer was written
-pub answering-next : {f : AnyFilter} {wanted : Wanted} {end : ℕ}
-    {read left rest from to more : Option (List ℕ)} {old : Waiting} {number : ℕ} {key : List ℕ}
-    → IsAnswering f wanted end read old left number from to → (new : Waiting)
-    → TakesShortBy end old.longest (left_of old left) (left_of new rest) new.line
-    → KnowsEnd new.ended rest → new.longest ≡ old.longest
-    → key ≡ new.line → Appends to more (wanted_text f wanted end (key ∷ []))
-    → IsAnswering f wanted end read new rest (number + 1) from more
-answering-next {f = f} {wanted = wanted} {end = end} {read = read} {left = left} {rest = rest}
-    {from = from} {to = to} {more = more} {old = old} {number = number} so_far new next knows same
-    line wrote =
-    let keys = so_far.keys in record {
-      keys = keys ++ new.line ∷ [];
-      has_read = read-next end read old new left rest keys so_far.has_read next knows same;
-      counted = one-more number keys new.line so_far.counted;
-      text = subst (Appends from more)
-          (sym (wanted_text-append f wanted end keys (new.line ∷ [])))
-          (Appends-trans from to more _ _ so_far.text
-          (subst (λ k. Appends to more (wanted_text f wanted end (k ∷ []))) line wrote));
-    }
-
 -- what holds holds where a result is Ok
 pub on-ok : {X E : Type 0} (result : Result X E) (P : Type 0) → P → OnOk result P
 on-ok (Ok x) P holds = holds
 on-ok (Err e) P holds = tt
 
--- all keys were answered, and the answers flushed
-pub answering-flushed : {f : AnyFilter} {wanted : Wanted} {end : ℕ}
-    {read left from to more : Option (List ℕ)} → AnswersAll f wanted end read left from to
-    → Keeps to more → AnswersAll f wanted end read left from more
-answering-flushed {f = f} {wanted = wanted} {end = end} {from = from} {to = to} {more = more}
-    all kept =
-    record {
-      keys = all.keys;
-      whole = all.whole;
-      short = all.short;
-      text = Appends-kept from to more (wanted_text f wanted end all.keys) all.text kept;
-    }
+-- no reply was written for no key
+pub writes-none : (f : AnyFilter) (wanted : Wanted) (end : ℕ) (from : Option (List ℕ))
+    → WritesWanted f wanted end from from []
+writes-none f wanted end from = record { text = Appends-nil from }
 
--- all keys were answered
-pub answering-end : {f : AnyFilter} {wanted : Wanted} {end : ℕ}
-    {read left from to : Option (List ℕ)} {old : Waiting} {number : ℕ}
-    → IsAnswering f wanted end read old left number from to → (new : Waiting)
-    (rest : Option (List ℕ)) → Ends (left_of old left) (left_of new rest)
-    → AnswersAll f wanted end read rest from to
-answering-end {end = end} {read = read} {left = left} {old = old} so_far new rest ends = record {
-  keys = so_far.keys;
-  whole = IsReadWhole-from end read (left_of old left) rest new.bytes so_far.keys
-      so_far.has_read.taken ends;
-  short = so_far.has_read.short;
-  text = so_far.text;
-}
+-- the text of one key that was looked up by its hash
+reply-is : (f : AnyFilter) (wanted : Wanted) (end : ℕ) (key : List ℕ) (contained : Bool)
+    → contained ≡ has_hash f (hash_in f key)
+    → reply_text wanted contained end key ≡ wanted_text f wanted end (key ∷ [])
+reply-is f wanted end key contained is =
+    ap (λ b. reply_text wanted b end key) is
+    ∙ either (is_wanted wanted (has_hash f (hash_in f key)))
+  where
+    either : (b : Bool) → (if b then key ++ end ∷ [] else [])
+        ≡ flat_map (λ k. k ++ end ∷ []) (if b then key ∷ [] else [])
+    either true = sym (append-nil (key ++ end ∷ []))
+    either false = refl
+
+module _ {f : AnyFilter} {wanted : Wanted} {end : ℕ} {from to more : Option (List ℕ)}
+    {keys : List (List ℕ)} (so_far : WritesWanted f wanted end from to keys) where
+  -- the replies for other keys were written, too
+  pub writes-more : {others : List (List ℕ)} → WritesWanted f wanted end to more others
+      → WritesWanted f wanted end from more (keys ++ others)
+  writes-more {others = others} wrote = record {
+    text = subst (Appends from more) (sym (wanted_text-append f wanted end keys others))
+        (Appends-trans from to more _ _ so_far.text wrote.text);
+  }
+
+  -- a write failed within the replies for other keys
+  pub writes-part : (others : List (List ℕ))
+      → AppendsPart (wanted_text f wanted end others) to more
+      → AppendsPart (wanted_text f wanted end (keys ++ others)) from more
+  writes-part others part =
+      subst (λ text. AppendsPart text from more) (sym (wanted_text-append f wanted end keys others))
+      (part-second (wanted_text f wanted end keys) (wanted_text f wanted end others) from to more
+      so_far.text part)
+
+  -- what was written was flushed
+  writes-kept : Keeps to more → WritesWanted f wanted end from more keys
+  writes-kept kept =
+      record { text = Appends-kept from to more (wanted_text f wanted end keys) so_far.text kept }
+
+  -- a flush of all that was written failed
+  writes-unflushed : Keeps to more → AppendsPart (wanted_text f wanted end keys) from more
+  writes-unflushed kept =
+      let text = wanted_text f wanted end keys in record {
+        written = text;
+        appended = (writes-kept kept).text;
+        begins = Begins-whole text text refl;
+      }
+
+  module _ (key : List ℕ) (contained : Bool) (is : contained ≡ has_hash f (hash_in f key)) where
+    -- the reply for one key more was written
+    pub writes-reply : Appends to more (reply_text wanted contained end key)
+        → WritesWanted f wanted end from more (keys ++ key ∷ [])
+    writes-reply wrote = writes-more
+        (record { text = subst (Appends to more) (reply-is f wanted end key contained is) wrote })
+
+    -- a write failed within the reply for one key more
+    pub writes-cut : AppendsPart (reply_text wanted contained end key) to more
+        → AppendsPart (wanted_text f wanted end (keys ++ key ∷ [])) from more
+    writes-cut part = writes-part (key ∷ [])
+        (subst (λ text. AppendsPart text to more) (reply-is f wanted end key contained is) part)
+
+-- asking stops where a write failed within the answers to these keys
+pub asking-within : {f : AnyFilter} {wanted : Wanted} {end : ℕ}
+    {read left from to : Option (List ℕ)} {reader : Waiting} {number : ℕ} (name : List ℕ)
+    (stop : Stop)
+    → HasRead end read reader left number
+    (λ keys. AppendsPart (wanted_text f wanted end keys) from to)
+    → IsUnwritten stop → StopsAnswers f wanted end name [] read from to stop
+asking-within name stop cut says = read-first cut (inr (cut.done, says))
+
+module _ {f : AnyFilter} {wanted : Wanted} {end : ℕ} {read left from to : Option (List ℕ)}
+    {old : Waiting} {number : ℕ}
+    (so_far : HasRead end read old left number (WritesWanted f wanted end from to)) where
+  -- the keys that waited were answered, too
+  pub answering-front : {n : ℕ} {more : Option (List ℕ)} (new : Waiting)
+      → AnswersFirst f wanted end old.bytes new.bytes n to more → new.ended ≡ old.ended
+      → new.longest ≡ old.longest
+      → HasRead end read new left (number + n) (WritesWanted f wanted end from more)
+  answering-front new batch ended longest =
+      read-front so_far new batch.cuts batch.counted ended longest
+      (writes-more so_far.done batch.done)
+
+  -- what was answered was flushed
+  pub answering-kept : {more : Option (List ℕ)} → Keeps to more
+      → HasRead end read old left number (WritesWanted f wanted end from more)
+  answering-kept kept = record {
+    keys = so_far.keys;
+    taken = so_far.taken;
+    knows = so_far.knows;
+    longest = so_far.longest;
+    short = so_far.short;
+    counted = so_far.counted;
+    done = writes-kept so_far.done kept;
+  }
+
+  -- asking stops for a reason why the keys so far aren't taken on
+  pub asking-stops : (name : List ℕ) (stop : Stop) → IsReasonAfter end name read so_far.keys stop
+      → StopsAnswers f wanted end name [] read from to stop
+  asking-stops name stop reason = read-first so_far (inl (so_far.done, reason))
+
+  -- asking stops where a write failed within the answers to the keys that waited
+  pub asking-front : {more : Option (List ℕ)} (name : List ℕ) (stop : Stop)
+      → AnswersPart f wanted end old.bytes to more → IsUnwritten stop
+      → StopsAnswers f wanted end name [] read from more stop
+  asking-front name stop batch says = asking-within name stop
+      (read-front so_far (record old { bytes = batch.rest }) batch.cuts refl refl refl
+      (writes-part so_far.done batch.keys batch.part)) says
+
+  -- asking stops where a flush of the answers so far failed
+  pub asking-unflushed : {more : Option (List ℕ)} (name : List ℕ) (stop : Stop) → Keeps to more
+      → IsUnwritten stop → StopsAnswers f wanted end name [] read from more stop
+  asking-unflushed name stop kept says =
+      read-first so_far (inr (writes-unflushed so_far.done kept, says))

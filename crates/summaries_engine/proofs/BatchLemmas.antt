@@ -1,14 +1,14 @@
 -- Keys at the front of some bytes, cut off one after the other, their hashes and their answers.
-use Rattle.std.proofs.Common.{◌≡◌, ℕ, suc, ◌+◌, ◌<◌, ◌≤◌, Bool, true, false, get_or, List, [], ◌∷◌, ◌++◌, map, length, length-append, take, Option, refl, sym, subst, ◌∙◌, ap, append_assoc, append-nil, arith}
+use Rattle.std.proofs.Common.{◌≡◌, ℕ, suc, ◌+◌, ◌<◌, ◌≤◌, Bool, get_or, List, [], ◌∷◌, ◌++◌, map, length, length-append, take, Option, refl, sym, ◌∙◌, ap, append_assoc, arith}
 use Rattle.std.proofs.Math.Seq.{take-suc-set}
-use Rattle.summaries_engine.proofs.Common.{map-append, All-append, All-from_recursion, All-nil, Appends-nil, Appends-trans, content, Appends, sip, lines_by, AppendsPart, part-second, Wanted, AnyFilter, TellsEach, has_hash, hash_in}
+use Rattle.summaries_engine.proofs.Common.{map-append, All-nil, All-push, content, Appends, sip, lines_by, AppendsPart, Wanted, AnyFilter, TellsEach, has_hash, hash_in}
 use Rattle.std.proofs.Math.ListN.{set}
 use Rattle.std.proofs.lemmas.Bool.{lt-ltb}
-use Rattle.std.specs.Prelude.{◌&&◌, flat_map, if◌then◌else◌}
+use Rattle.std.specs.Prelude.{◌&&◌}
 use Rattle.lines.proofs.LineLemmas.{IsEnded-append, IsEnded-line, IsEnded-nil, lines_by-ended, lines_by-nil}
-use Rattle.summaries_engine.specs.Answers.{is_wanted, reply_text, wanted_text}
+use Rattle.summaries_engine.specs.Answers.{reply_text}
 use Rattle.summaries_engine.specs.Batches.{AnswersFirst, AnswersPart, CutsKey, CutsKeys, HashesFirst, HashesSome}
-use Rattle.summaries_engine.proofs.AskingLemmas.{wanted_text-append}
+use Rattle.summaries_engine.proofs.AskingLemmas.{writes-cut, writes-none, writes-reply}
 
 -- no key was cut off
 pub cuts-none : (end : ℕ) (bytes : List ℕ) → CutsKeys end bytes bytes []
@@ -39,8 +39,7 @@ cuts-more {end = end} {keys = keys} {key = key} {others = others} so_far next =
           ∙ ap (λ l. keys ++ l) is_line;
       ended =
           IsEnded-append end so_far.taken line so_far.ended (IsEnded-line end key next.inside);
-      short = All-append (λ k. length k ≤ 65536) keys (key ∷ []) so_far.short
-          (All-from_recursion (λ k. length k ≤ 65536) (key ∷ []) (next.short, tt));
+      short = All-push (λ k. length k ≤ 65536) keys key so_far.short next.short;
     }
 
 -- all lines are these keys and those behind them
@@ -114,26 +113,6 @@ hashes-more {k0 = k0} {k1 = k1} hashes {key = key} n so_far next low hash is =
           ∙ sym (map-append (sip k0 k1) so_far.keys (key ∷ []));
     }
 
--- the text of one key
-pub reply-is : (f : AnyFilter) (wanted : Wanted) (end : ℕ) (key : List ℕ) (contained : Bool)
-    → contained ≡ has_hash f (hash_in f key)
-    → reply_text wanted contained end key ≡ wanted_text f wanted end (key ∷ [])
-reply-is f wanted end key contained is =
-    ap (λ b. reply_text wanted b end key) is
-    ∙ either (is_wanted wanted (has_hash f (hash_in f key)))
-  where
-    either : (b : Bool) → (if b then key ++ end ∷ [] else [])
-        ≡ flat_map (λ k. k ++ end ∷ []) (if b then key ∷ [] else [])
-    either true = sym (append-nil (key ++ end ∷ []))
-    either false = refl
-
--- the text of one key that was looked up by its hash
-pub reply-hashed : (f : AnyFilter) (wanted : Wanted) (end : ℕ) (key : List ℕ) (contained : Bool)
-    (hash : ℕ) → hash ≡ hash_in f key → contained ≡ has_hash f hash
-    → reply_text wanted contained end key ≡ wanted_text f wanted end (key ∷ [])
-reply-hashed f wanted end key contained hash hashed is =
-    reply-is f wanted end key contained (is ∙ ap (has_hash f) hashed)
-
 -- no key was answered
 pub answers-none : (f : AnyFilter) (wanted : Wanted) (end : ℕ) (bytes : List ℕ)
     (from : Option (List ℕ)) → AnswersFirst f wanted end bytes bytes 0 from from
@@ -141,7 +120,7 @@ answers-none f wanted end bytes from = record {
   keys = [];
   cuts = cuts-none end bytes;
   counted = refl;
-  text = Appends-nil from;
+  done = writes-none f wanted end from;
 }
 
 module _ {f : AnyFilter} {wanted : Wanted} {end : ℕ} {bytes rest key others : List ℕ} {n : ℕ}
@@ -155,9 +134,7 @@ module _ {f : AnyFilter} {wanted : Wanted} {end : ℕ} {bytes rest key others : 
     keys = so_far.keys ++ key ∷ [];
     cuts = cuts-more so_far.cuts next;
     counted = simp length-append (omega (arith, so_far.counted));
-    text = subst (Appends from more) (sym (wanted_text-append f wanted end so_far.keys (key ∷ [])))
-        (Appends-trans from to more _ _ so_far.text
-        (subst (Appends to more) (reply-is f wanted end key contained is) wrote));
+    done = writes-reply so_far.done key contained is wrote;
   }
 
   -- a write failed within the answer to one key more
@@ -167,9 +144,5 @@ module _ {f : AnyFilter} {wanted : Wanted} {end : ℕ} {bytes rest key others : 
     keys = so_far.keys ++ key ∷ [];
     rest = others;
     cuts = cuts-more so_far.cuts next;
-    part = subst (λ text. AppendsPart text from more)
-        (sym (wanted_text-append f wanted end so_far.keys (key ∷ [])))
-        (part-second (wanted_text f wanted end so_far.keys) (wanted_text f wanted end (key ∷ []))
-        from to more so_far.text
-        (subst (λ text. AppendsPart text to more) (reply-is f wanted end key contained is) part));
+    part = writes-cut so_far.done key contained is part;
   }

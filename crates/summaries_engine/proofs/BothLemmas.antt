@@ -1,5 +1,5 @@
 -- How many bits are set in both of two filters.
-use Rattle.std.proofs.Common.{◌≡◌, ◌≤◌, ℕ, zero, suc, ◌+◌, ◌-◌, ◌*◌, Bool, true, false, ◌||◌, refl, ap, ◌∙◌, arith}
+use Rattle.std.proofs.Common.{◌≡◌, ◌≤◌, ℕ, zero, suc, ◌+◌, ◌-◌, ◌*◌, Bool, true, ◌||◌, refl, ap, ◌∙◌, arith}
 use Rattle.summaries_engine.proofs.Common.{◌&&◌, if◌then◌else◌, content, count_on, DefaultFilter, SameShape, num_bits_of}
 use Rattle.fastbloom.specs.Ones.{ones_of, ones_of_either}
 use Rattle.summaries_engine.specs.Comparing.{ones_of_both}
@@ -9,9 +9,7 @@ one-more : (a b : Bool) (either both one other : ℕ) → either + both ≡ one 
     → (either + (if a || b then 1 else 0)) + (both + (if a && b then 1 else 0))
     ≡ (one + (if a then 1 else 0)) + (other + (if b then 1 else 0))
 one-more true true either both one other is = omega (arith, is)
-one-more true false either both one other is = omega (arith, is)
-one-more false true either both one other is = omega (arith, is)
-one-more false false either both one other is = omega (arith, is)
+one-more a b either both one other is = omega (arith, is)
 
 -- the members of either set, and those of both, are as many as those of each
 pub count-both : (A B : ℕ → Bool) (n : ℕ)
@@ -26,8 +24,7 @@ count-both A B (suc n) =
 less-more : (a b : Bool) (both one : ℕ) → both ≤ one
     → both + (if a && b then 1 else 0) ≤ one + (if a then 1 else 0)
 less-more true true both one is = omega (arith, is)
-less-more true false both one is = omega (arith, is)
-less-more false b both one is = omega (arith, is)
+less-more a b both one is = omega (arith, is)
 
 -- those of both are no more than those of one
 pub count-less : (A B : ℕ → Bool) (n : ℕ) → count_on (λ p. A p && B p) n ≤ count_on A n

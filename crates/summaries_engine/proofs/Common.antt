@@ -22,7 +22,6 @@ pub use Rattle.fastbloom.specs.Laws.{EqualContentLaw, EqualityLaw}
 pub use Rattle.fastbloom.specs.Lines.{LineRangeLaw, LineSubsetLaw, line_positions}
 pub use Rattle.fastbloom.specs.Replies.{InsertsAll}
 pub use Rattle.fastbloom.specs.declared.parallel.shape.Shape.{Shape}
-pub use Rattle.lines.proofs.TakenLemmas.{IsReadWhole-from}
 pub use Rattle.lines.proofs.WritingLemmas.{part-second}
 unfoldable pub use Rattle.lines.specs.Lines.{lines_by}
 pub use Rattle.lines.specs.Reading.{AreShort, Ends, IsReadFromBy, KnowsEnd, TakesShortBy, Waiting, left_of}
@@ -30,14 +29,14 @@ pub use Rattle.lines.specs.Writing.{AppendsPart, Begins}
 pub use Rattle.std.proofs.KnownBytes.{Appends-kept, Appends-nil, Appends-trans}
 pub use Rattle.std.proofs.lemmas.Grind.{flat_map-append}
 pub use Rattle.std.proofs.lemmas.List.{get_or-map, length-map, map-append, nil_from_length}
-pub use Rattle.std.proofs.lemmas.List.Elements.{All-append, All-cons, All-from_recursion, All-head, All-nil, All-tail}
+pub use Rattle.std.proofs.lemmas.List.Elements.{All-append, All-from_recursion, All-head, All-nil, All-push, All-tail}
 pub use Rattle.std.proofs.lemmas.List.Folds.{list_any-append}
 pub use Rattle.std.proofs.lemmas.Result.{IfOk-weaker}
 unfoldable pub use Rattle.std.specs.Fmt.{char_count, digits, padded_integral}
 pub use Rattle.std.specs.Io.KnownBytes.{Appends, Keeps}
 pub use Rattle.std.specs.List.{Contains, list_any, starts_with}
 pub use Rattle.std.specs.Prelude.{All, IfOk, Result, if◌then◌else◌, nat_eq, nat_le, slice_index_or, ◌&&◌}
-pub use Rattle.summaries_engine.specs.Answers.{AnswersAll, HashesAll, IsKeyed, is_wanted, wanted_text}
+pub use Rattle.summaries_engine.specs.Answers.{IsKeyed, WritesWanted, is_wanted, wanted_text}
 pub use Rattle.summaries_engine.specs.Batches.{AnswersFirst, AnswersPart, CutsKeys, HashesFirst}
 pub use Rattle.summaries_engine.specs.Comparing.{TellsBoth}
 pub use Rattle.summaries_engine.specs.Crews.{HoldTogether, InsertParts}
@@ -46,8 +45,8 @@ pub use Rattle.summaries_engine.specs.Inputs.{HashesInputs, HaveKeys, Lies, Summ
 pub use Rattle.summaries_engine.specs.Kinds.{HaveOneShape, HaveSameKind, IsFileOfKind, TellsEach, UnitesParts, has_hash, layout_of, parts_of}
 pub use Rattle.summaries_engine.specs.Named.{AreNamed, Named, StopsUniting}
 pub use Rattle.summaries_engine.specs.Refusals.{DiffersBy, IsUnitable, too_long_text}
-pub use Rattle.summaries_engine.specs.Sizes.{HasSeed, IsClassicFor, IsEmpty, IsShapeOf, IsSizedFor}
-pub use Rattle.summaries_engine.specs.Stops.{IsBad, IsReasonAfter, IsUnwritten, Says, StopsAnswers, StopsHashing, StopsWriting}
+pub use Rattle.summaries_engine.specs.Sizes.{HasSeed, IsEmpty, IsShapeOf}
+pub use Rattle.summaries_engine.specs.Stops.{IsBad, IsReasonAfter, IsUnwritten, Says, StopsAnswers}
 pub use Rattle.summaries_engine.specs.Summaries.{HaveSameKey, HaveSameKeys, IsFilled, IsSummaryOf, IsUnionOf, UnitesShards, hash_in, joined, positions_in}
 pub use Rattle.summaries_engine.specs.declared.answers.Wanted.{Wanted}
 pub use Rattle.summaries_engine.specs.declared.form.Form.{Form}

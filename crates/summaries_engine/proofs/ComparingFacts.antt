@@ -1,5 +1,6 @@
 -- What is reported about two filters: cases that hold, and the nearest that don't.
-use Rattle.std.proofs.Common.{◌≡◌, ◌^◌, ℕ, inl, inr, List, [], ◌∷◌, ◌++◌, codes, get_or, refl, sym, ap, ◌∙◌, lit≤, arith}
+use Rattle.std.proofs.Common.{◌≡◌, ◌^◌, ℕ, inl, List, [], ◌∷◌, ◌++◌, codes, get_or, refl, sym, ap, ◌∙◌, lit≤, arith}
+use Rattle.std.proofs.Math.Logic.{⊎_elim}
 use Rattle.summaries_engine.proofs.Common.{char_count, digits, padded_integral, Error, content, count_on, key_of, Blocked, Memory, Output, parts_of}
 use Rattle.bloom_parts.specs.Alike.{EstimatesEach, IsCommon, IsPartOf}
 use Rattle.bloom_parts.specs.declared.math.bracket.Bracket.{Bracket}
@@ -91,10 +92,8 @@ compares = (
 stops : (said : Error)
     → StopsComparing counted never (2 ∷ []) (3 ∷ []) Memory
     × (StopsComparing counted never (2 ∷ []) (3 ∷ []) (Output said) → ⊥)
-stops said = (inl tt, output)
-  where
-    output : StopsComparing counted never (2 ∷ []) (3 ∷ []) (Output said) → ⊥
-    output (inl memory) = memory
-    output (inr (inl none)) = none.1
-    output (inr (inr (inl unloaded))) = unloaded.failed
-    output (inr (inr (inr misfit))) = misfit.says
+stops said = (
+  inl tt,
+  ⊎_elim (λ memory. memory)
+      (⊎_elim (λ none. none.1) (⊎_elim (λ unloaded. unloaded.failed) (λ misfit. misfit.says))),
+)

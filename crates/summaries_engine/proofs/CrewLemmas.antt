@@ -44,8 +44,6 @@ pub parts-each : (size : ℕ) (old : List DefaultFilter) (hashes : List ℕ) (ne
     → InsertsAll (slice_index_or old k d) (slice_chunk hashes size k) (slice_index_or new k d))
     → InsertParts size old hashes new
 parts-each size [] hashes [] long enough each = nil_from_length hashes (omega (arith, enough))
-parts-each size [] hashes (n ∷ new) long enough each = absurd (omega (arith, long))
-parts-each size (o ∷ old) hashes [] long enough each = absurd (omega (arith, long))
 parts-each size (o ∷ old) hashes (n ∷ new) long enough each = (
   subst (λ l. InsertsAll o (take size (drop l hashes)) n) (zero-mul size) (each 0 o (omega arith)),
   parts-each size old (drop size hashes) new (omega (arith, long))
@@ -55,15 +53,15 @@ parts-each size (o ∷ old) hashes (n ∷ new) long enough each = (
       (ap (λ n. drop n hashes) (omega arith) ∙ sym (drop-drop (k * size) size hashes))
       (each (suc k) d (omega (arith, low)))),
 )
+parts-each size old hashes new long enough each = absurd (omega (arith, long))
 
 -- so as many filters are there as before
 pub parts-length : (size : ℕ) (old : List DefaultFilter) (hashes : List ℕ)
     (new : List DefaultFilter) → InsertParts size old hashes new → length new ≡ length old
 parts-length size [] hashes [] did = refl
-parts-length size [] hashes (new ∷ after) did = absurd did
-parts-length size (old ∷ before) hashes [] did = absurd did
 parts-length size (old ∷ before) hashes (new ∷ after) did =
     ap suc (parts-length size before (drop size hashes) after did.1)
+parts-length size old hashes new did = absurd did
 
 -- after a step that sets some positions, a position is set if it was, or if the step sets it
 made-on : (made was : Bool) → unwrap_or (cond made (Some true) None) was ≡ (was || made)
@@ -98,8 +96,6 @@ module _ (first : DefaultFilter) where
       → All (IsLike first) old → InsertParts size old hashes new
       → All (IsLike first) new × ((p : ℕ) → one_has new p ≡ (one_has old p || on hashes p))
   parts-set size [] hashes [] alike did = (alike, λ p. sym (ap (λ l. on l p) did))
-  parts-set size [] hashes (new ∷ after) alike did = absurd did
-  parts-set size (old ∷ before) hashes [] alike did = absurd did
   parts-set size (old ∷ before) hashes (new ∷ after) alike ((given, did), later) =
       let like = All-head (IsLike first) old before alike in
       let part = take size hashes in
@@ -121,6 +117,7 @@ module _ (first : DefaultFilter) where
             (sym (positions_of_all-append (num_bits_of first) first.hashes part rest p)
             ∙ ap (λ l. on l p) (take-append-drop size hashes)),
       )
+  parts-set size old hashes new alike did = absurd did
 
   -- so they hold these hashes together besides those that they held
   parts-hold : (size : ℕ) (old new : List DefaultFilter) (before hashes : List ℕ)

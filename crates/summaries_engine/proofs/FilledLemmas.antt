@@ -1,8 +1,6 @@
 -- Filters of either kind that were filled with hashes.
-use Rattle.std.proofs.Common.{◌≡◌, inl, inr, ℕ, ◌*◌, ◌/◌, Bool, true, false, ◌||◌, List, [], ◌∷◌, ◌++◌, refl, sym, ◌∙◌, ap, arith}
-use Rattle.std.proofs.lemmas.Bool.{or_cases}
-use Rattle.std.proofs.lemmas.List.Elements.{Contains-append_right}
-use Rattle.std.proofs.lemmas.List.Folds.{list_any-append, list_any_at}
+use Rattle.std.proofs.Common.{◌≡◌, ℕ, ◌*◌, ◌/◌, Bool, true, false, ◌||◌, List, [], ◌++◌, refl, sym, ◌∙◌, ap}
+use Rattle.std.proofs.lemmas.List.Folds.{Any-from_list_any, list_any-append, list_any_at}
 use Rattle.summaries_engine.proofs.Common.{Contains, list_any, content, AreWords, Layout, Whole, Lines, DefaultFilter, EqualContentLaw, EqualityLaw, Shape, AnyFilter, Classic, Blocked, HaveSameKind, UnitesParts, has_hash, layout_of, parts_of, IsFilled, positions_in}
 use Rattle.bloom_parts.specs.declared.hasher.CloneBuildHasher.{CloneBuildHasher}
 use Rattle.bloom_parts.specs.declared.hasher.sip.RandomDefaultHasher.{RandomDefaultHasher}
@@ -71,14 +69,10 @@ both-ways false false to from = refl
 -- a test that one of these passes is passed by one of those among which these are
 any-among : (test : ℕ → Bool) (xs ys : List ℕ) → ((h : ℕ) → Contains xs h → Contains ys h)
     → list_any test xs ≡ true → list_any test ys ≡ true
-any-among test [] ys among on = cc
-any-among test (x ∷ xs) ys among on =
-    elim (or_cases (test x) (list_any test xs) on) [
-      | inl here ↦ let there = among x (0, omega arith, refl) in
-          list_any_at test ys there.0 x there.1 (ap test there.2 ∙ here)
-      | inr later ↦ any-among test xs ys
-          (λ h given. among h (Contains-append_right (x ∷ []) xs h given)) later
-    ]
+any-among test xs ys among on =
+    let here = Any-from_list_any test xs on in
+    let there = among here.1 (here.0, here.2, here.3) in
+    list_any_at test ys there.0 here.1 there.1 (ap test there.2 ∙ here.4)
 
 -- the same hashes pass a test, in whatever order and number they come
 any-same : (test : ℕ → Bool) (hashes others : List ℕ) → HaveSameHashes hashes others
@@ -99,10 +93,6 @@ filled-alike equality contents cutting shape (Classic f) (Classic g) hashes othe
     (equality f g).0
     (cutting shape f g hashes others f_words g_words (filled-with shape hashes f one)
     (filled-with shape others g other) same)
-filled-alike equality contents cutting shape (Classic f) (Blocked g) hashes others f_words g_words
-    kind one other same = cc
-filled-alike equality contents cutting shape (Blocked f) (Classic g) hashes others f_words g_words
-    kind one other same = cc
 filled-alike equality contents cutting shape (Blocked f) (Blocked g) hashes others f_words g_words
     kind one other same =
     (equality f g).0
@@ -114,6 +104,8 @@ filled-alike equality contents cutting shape (Blocked f) (Blocked g) hashes othe
     ∙ any-same (λ hash. line_positions (words_of shape / 8) (hashes_of shape) hash p) hashes others
     same
     ∙ sym (other.bits p)))
+filled-alike equality contents cutting shape f g hashes others f_words g_words kind one other
+    same = cc
 
 -- a filled filter contains each of its hashes
 pub filled-contains : FilledContainsLaw Builder → LineSubsetLaw → (shape : Shape) (f : AnyFilter)

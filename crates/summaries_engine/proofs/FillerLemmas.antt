@@ -72,9 +72,9 @@ module _ (empty made : AnyFilter) (hashes : List ℕ) (is : IsEmpty (parts_of em
   summary-made lies end names all shape fits = record {
     parts = all.parts;
     keys = all.keys;
-    summary =
+    done =
         subst (λ l. IsFilled shape l made)
-        (all.hashed
+        (all.done
         ∙ ap (λ hasher. map (sip (key_of hasher).0 (key_of hasher).1) (joined all.parts))
         (sym did.hasher))
         (did.filled shape [] (filled-empty shape empty is fits));

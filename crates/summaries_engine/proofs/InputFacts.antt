@@ -20,10 +20,10 @@ summarizes : SummarizesInputs own 10 (key_a ∷ []) shape of_a
     × (SummarizesInputs own 10 (key_a ∷ []) shape of_b → ⊥)
 unfolding content positions chain
 summarizes = (
-  record { parts = (key_a ∷ []) ∷ []; keys = (both-keys.0, tt); summary = summary-a },
+  record { parts = (key_a ∷ []) ∷ []; keys = (both-keys.0, tt); done = summary-a },
   λ did.
       let summary : IsSummaryOf shape (key_a ∷ []) of_b =
-      subst (λ keys. IsSummaryOf shape keys of_b) (one-key did.parts did.keys) did.summary in
+      subst (λ keys. IsSummaryOf shape keys of_b) (one-key did.parts did.keys) did.done in
       let wrong : true ≡ false =
       summary.bits 34 ∙ ap (λ h. positions_of_all 64 2 (h ∷ []) 34) hash-a in cc,
 )
@@ -48,14 +48,14 @@ answers = (
   record {
     parts = (key_a ∷ []) ∷ (key_b ∷ []) ∷ [];
     keys = both-keys;
-    text = ap (λ text. 5 ∷ text) (sym text-of-keys.4);
+    done = record { text = ap (λ text. 5 ∷ text) (sym text-of-keys.4) };
   },
   λ is.
       let same : ◌≡◌ {A = List ℕ} [] (97 ∷ 10 ∷ []) =
-      is.text ∙ ap (wanted_text of_a Found 10) (one-key is.parts is.keys) ∙ text-of-keys.2 in
+      is.done.text ∙ ap (wanted_text of_a Found 10) (one-key is.parts is.keys) ∙ text-of-keys.2 in
       let wrong : 0 ≡ 2 = ap length same in omega (arith, wrong),
   λ is.
       let same : ◌≡◌ {A = List ℕ} (97 ∷ 10 ∷ []) [] =
-      is.text ∙ ap (wanted_text of_a Absent 10) (one-key is.parts is.keys) ∙ text-of-keys.3 in
+      is.done.text ∙ ap (wanted_text of_a Absent 10) (one-key is.parts is.keys) ∙ text-of-keys.3 in
       let wrong : 2 ≡ 0 = ap length same in omega (arith, wrong),
 )

@@ -19,11 +19,9 @@ mod NameLemmas
 mod NamedFacts
 mod RefusalFacts
 mod RefusalLemmas
-mod SealLemmas
 mod ShardLemmas
 mod SizeFacts
 mod StopFacts
-mod StopLemmas
 mod SummaryFacts
 mod TextFacts
 mod TreeFacts
@@ -31,4 +29,3 @@ mod TreeLemmas
 mod UnionLemmas
 mod UnitingLemmas
 mod UnloadedLemmas
-mod WaitingKeyLemmas

@@ -1,10 +1,11 @@
 -- Filters in files of either form, and what is said where none is read: cases that hold, and the
 -- nearest that don't.
 use Rattle.std.proofs.Common.{◌≡◌, ◌<◌, ℕ, List, [], ◌∷◌, ◌++◌, codes, drop, get_or, None, Some, refl, sym, subst, ap, ◌∙◌, arith, inl, inr}
+use Rattle.std.proofs.Math.Logic.{⊎_elim}
 use Rattle.summaries_engine.proofs.Common.{HasMessage, error_message, Error, refusal_in, number_at, Begins, Form, Sealed, Unsealed, Json, AnyFilter, Memory, Input, Bad, Output, IsFileOfKind, parts_of}
 use Rattle.bloom_files.specs.declared.error.FileError.TheVariants.{Seal}
 use Rattle.summaries_engine.specs.Loaded.{HasManyHashes, IsInForm, IsRightWith, IsUnloaded, hashes_text, layout_given, mark_bytes}
-use Rattle.summaries_engine.proofs.StopFacts.{no-whole, says-other}
+use Rattle.summaries_engine.proofs.StopFacts.{says-other}
 
 -- a file is sealed exactly if its seal isn't 0. What begins otherwise than with the mark and a zero
 -- byte is text
@@ -49,23 +50,12 @@ module _ (said : Error) where
     λ none. inl (inr (inr none)),
     λ says. inr (record { hashes = 65; many = omega arith; says = says }),
     λ many is. omega (arith, many.many, is),
-    other,
-    output,
+    λ told. ⊎_elim
+        (⊎_elim (λ memory. memory)
+        (⊎_elim (says-other (codes "a: it can't be read") said told (λ same. cc)) (λ none. none)))
+        (λ many. many),
+    ⊎_elim (⊎_elim (λ memory. memory) (⊎_elim (λ failed. failed) (λ none. none))) (λ many. many),
   )
-    where
-      other : error_message said ≡ codes "no" → IsUnloaded (codes "a") 64 (Input said) → ⊥
-      other told (inl (inl memory)) = memory
-      other told (inl (inr (inl failed))) =
-          says-other (codes "no") (codes "a: it can't be read") said told (λ same. cc) no-whole
-          failed
-      other told (inl (inr (inr none))) = none
-      other told (inr many) = many
-
-      output : IsUnloaded (codes "a") 64 (Output said) → ⊥
-      output (inl (inl memory)) = memory
-      output (inl (inr (inl failed))) = failed
-      output (inl (inr (inr none))) = none
-      output (inr many) = many
 
   module _ (bytes : List ℕ) where
     -- memory may be out with whatever file. A file with a wrong seal holds no filter, and a file

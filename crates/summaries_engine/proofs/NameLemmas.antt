@@ -1,12 +1,19 @@
 -- Names, of which the first were gone through.
 use Rattle.std.proofs.Common.{◌≡◌, zero, suc, ◌<◌, ℕ, ◌+◌, List, [], ◌∷◌, ◌++◌, map, length, get_or, take, take_all, Bor, Option, Some, refl, sym, subst, ◌∙◌, ap, arith}
 use Rattle.std.proofs.lemmas.List.{get_or-map, length-map, take_more}
-use Rattle.std.specs.List.{IsFirstAndRest}
+use Rattle.std.specs.List.{AllZip, IsFirstAndRest}
 use Rattle.std.specs.Prelude.{◌≤◌, MatchOption}
 
 -- the texts of names
 abbrev pub texts : List (Bor (List ℕ)) → List (List ℕ)
 texts names = map (λ name. name.now) names
+
+-- one name more, and what goes with it
+pub AllZip-more : {A B : Type 0} (R : A → B → Type 0) (xs : List A) (ys : List B) (x : A) (y : B)
+    → AllZip R xs ys → R x y → AllZip R (xs ++ x ∷ []) (ys ++ y ∷ [])
+AllZip-more R [] [] x y so_far one = (one, tt)
+AllZip-more R (a ∷ xs) (b ∷ ys) x y so_far one = (so_far.0, AllZip-more R xs ys x y so_far.1 one)
+AllZip-more R xs ys x y so_far one = absurd so_far
 
 -- names up to a place, and then the others
 pub names-from : (names : List (Bor (List ℕ))) (count : ℕ) (other : Bor (List ℕ))

@@ -1,6 +1,7 @@
 -- Why a run stops, and what is said of it: cases that hold, and the nearest that don't. The input
 -- has the name "k".
 use Rattle.std.proofs.Common.{◌≡◌, ℕ, ◌+◌, ◌-◌, ◌^◌, ◌==◌, true, min, if◌then◌else◌, None, inl, inr, List, [], codes, length, get_or, Some, refl, sym, ap, subst, ◌∙◌, arith}
+use Rattle.std.proofs.Math.Logic.{⊎_elim}
 use Rattle.std.proofs.lemmas.Bool.{and_from, le-leb}
 use Rattle.summaries_engine.proofs.Common.{nat_le, Error, Memory, Input, Bad, Output}
 use Rattle.std.specs.Fmt.Cut.{EndsInDots}
@@ -8,15 +9,12 @@ use Rattle.std.specs.declared.io.ErrorKind.TheVariants as kind
 use Rattle.anyhow.specs.Error.{AddsCause, HasMessage, IsMadeOf, error_causes, error_left_out, error_message, keeps_message}
 use Rattle.summaries_engine.specs.Stops.{IsBad, IsMemory, IsOutput, IsUnput, IsUnreadAs, IsUnreadable, Says, SaysOver}
 
--- an error that says one text says no other
-pub says-other : (is text : List ℕ) (said : Error) → error_message said ≡ is → (is ≡ text → ⊥)
-    → (EndsInDots 120 is → ⊥) → HasMessage (Some text) said → ⊥
-says-other is text said told other uncut (inl same) = other (sym told ∙ same)
-says-other is text said told other uncut (inr dots) = uncut (subst (EndsInDots 120) told dots)
-
--- no is a whole text
-pub no-whole : EndsInDots 120 (codes "no") → ⊥
-no-whole ends =
+-- an error that says "no" says no other text
+pub says-other : (text : List ℕ) (said : Error) → error_message said ≡ codes "no"
+    → (codes "no" ≡ text → ⊥) → HasMessage (Some text) said → ⊥
+says-other text said told other (inl same) = other (sym told ∙ same)
+says-other text said told other (inr dots) =
+    let ends : EndsInDots 120 (codes "no") = subst (EndsInDots 120) told dots in
     let byte : ◌≡◌ {A = ℕ} 110 46 = ap (λ t. get_or t 0 0) ends in absurd (omega (arith, byte))
 
 module _ (said : Error) where
@@ -37,10 +35,8 @@ module _ (said : Error) where
   says text = (
     λ says. says.alone.causes,
     λ over. kept over.2.0 over.2.1 over.2.2,
-    λ told says.
-        says-other (codes "no") (codes "no more") said told (λ same. cc) no-whole says.message,
-    λ told over.
-        says-other (codes "no") (codes "no more") said told (λ same. cc) no-whole over.0,
+    λ told says. says-other (codes "no more") said told (λ same. cc) says.message,
+    λ told over. says-other (codes "no more") said told (λ same. cc) over.0,
   )
     where
       kept : (old : Error) → IsMadeOf None old → AddsCause old said → error_left_out said ≡ 0
@@ -59,21 +55,14 @@ module _ (said : Error) where
       × (error_message said ≡ codes "no" → IsUnreadable (codes "k") (Input said) → ⊥)
       × (IsUnreadable (codes "k") (Bad said) → ⊥)
       × (IsUnreadable (codes "k") (Output said) → ⊥)
-  unreadable = (inl tt, λ over. inr over, other, bad, output)
-    where
-      other : error_message said ≡ codes "no" → IsUnreadable (codes "k") (Input said) → ⊥
-      other told (inl memory) = memory
-      other told (inr over) =
-          says-other (codes "no") (codes "k: it can't be read") said told (λ same. cc) no-whole
-          over.0
-
-      bad : IsUnreadable (codes "k") (Bad said) → ⊥
-      bad (inl memory) = memory
-      bad (inr over) = over
-
-      output : IsUnreadable (codes "k") (Output said) → ⊥
-      output (inl memory) = memory
-      output (inr over) = over
+  unreadable = (
+    inl tt,
+    λ over. inr over,
+    λ told. ⊎_elim (λ memory. memory)
+        (λ over. says-other (codes "k: it can't be read") said told (λ same. cc) over.0),
+    ⊎_elim (λ memory. memory) (λ over. over),
+    ⊎_elim (λ memory. memory) (λ over. over),
+  )
 
   -- exactly a read for which there was no memory is reported as memory
   unread-as : IsUnreadAs kind.OutOfMemory (codes "k") Memory
@@ -93,14 +82,10 @@ module _ (said : Error) where
       × (SaysOver (codes "the filter can't be written") said → IsUnput (Output said))
       × (error_message said ≡ codes "no" → IsUnput (Output said) → ⊥)
       × (IsUnput (Input said) → ⊥)
-  unput = (inl tt, λ over. inr over, other, input)
-    where
-      other : error_message said ≡ codes "no" → IsUnput (Output said) → ⊥
-      other told (inl memory) = memory
-      other told (inr over) =
-          says-other (codes "no") (codes "the filter can't be written") said told (λ same. cc)
-          no-whole over.0
-
-      input : IsUnput (Input said) → ⊥
-      input (inl memory) = memory
-      input (inr over) = over
+  unput = (
+    inl tt,
+    λ over. inr over,
+    λ told. ⊎_elim (λ memory. memory)
+        (λ over. says-other (codes "the filter can't be written") said told (λ same. cc) over.0),
+    ⊎_elim (λ memory. memory) (λ over. over),
+  )

@@ -1,7 +1,7 @@
 -- Filters that are united, and the keys of which they are summaries.
 use Rattle.std.proofs.Common.{◌≡◌, ℕ, Bool, false, ◌||◌, List, [], ◌∷◌, ◌++◌, get_or, map, refl, sym, ◌∙◌, ap}
 use Rattle.std.proofs.Math.Bool.{or_comm}
-use Rattle.summaries_engine.proofs.Common.{map-append, All-append, All-from_recursion, All-head, All-tail, list_any-append, list_any, All, content, key_of, sip, Shape, AnyFilter, HaveSameKind, HaveOneShape, UnitesParts, layout_of, parts_of, IsUnitable}
+use Rattle.summaries_engine.proofs.Common.{map-append, All-from_recursion, All-head, All-push, All-tail, list_any-append, list_any, All, content, key_of, sip, Shape, AnyFilter, HaveSameKind, HaveOneShape, UnitesParts, layout_of, parts_of, IsUnitable}
 use Rattle.summaries_engine.specs.Summaries.{AreSummariesOf, HaveSameKey, IsSummaryOf, IsUnionOf, hash_in, joined, positions_in}
 use Rattle.summaries_engine.proofs.FilledLemmas.{positions-append, positions-none}
 
@@ -30,15 +30,13 @@ union-next filters old other new so_far fits united =
           ∙ ap (λ b. b || on other) (so_far.bits p)
           ∙ ap (λ b. list_any on filters || b) (or_comm false (on other))
           ∙ sym (list_any-append on filters (other ∷ []));
-      kind = All-append (HaveSameKind new) filters (other ∷ [])
-          (λ i d within. sym united.kind ∙ so_far.kind i d within)
-          (All-from_recursion (HaveSameKind new) (other ∷ []) (sym united.kind ∙ fits.kind, tt));
-      shape = All-append (HaveOneShape new) filters (other ∷ [])
+      kind = All-push (HaveSameKind new) filters other
+          (λ i d within. sym united.kind ∙ so_far.kind i d within) (sym united.kind ∙ fits.kind);
+      shape = All-push (HaveOneShape new) filters other
           (λ i d within. moved (get_or filters i d) (so_far.shape i d within))
-          (All-from_recursion (HaveOneShape new) (other ∷ []) (moved other fits.shape, tt));
-      key = All-append (HaveSameKey new) filters (other ∷ [])
-          (λ i d within. key ∙ so_far.key i d within)
-          (All-from_recursion (HaveSameKey new) (other ∷ []) (key ∙ fits.key, tt));
+          (moved other fits.shape);
+      key = All-push (HaveSameKey new) filters other
+          (λ i d within. key ∙ so_far.key i d within) (key ∙ fits.key);
     }
   where
     moved : (f : AnyFilter) → HaveOneShape old f → HaveOneShape new f
@@ -58,8 +56,6 @@ module _ (shape : Shape) (made : AnyFilter) where
       → All (HaveSameKey made) filters → (p : ℕ)
       → list_any (λ f. content (parts_of f).words p) filters ≡ on_of (joined parts) p
   on-joined [] [] each kind same p = sym (positions-none (layout_of made) shape p)
-  on-joined [] (f ∷ filters) each kind same p = absurd each
-  on-joined (keys ∷ parts) [] each kind same p = absurd each
   on-joined (keys ∷ parts) (f ∷ filters) each kind same p =
       let hashes = map (hash_in made) keys in
       let later = map (hash_in made) (joined parts) in
@@ -76,6 +72,7 @@ module _ (shape : Shape) (made : AnyFilter) where
       ∙ sym (positions-append (layout_of made) shape hashes later p)
       ∙ ap (λ l. positions_in (layout_of made) shape l p)
       (sym (map-append (hash_in made) keys (joined parts)))
+  on-joined parts filters each kind same p = absurd each
 
   -- the union of summaries is the summary of all keys
   pub summary-joined : (first : AnyFilter) (others : List AnyFilter)

@@ -4,19 +4,10 @@ use Rattle.summaries_engine.proofs.Common.{AreWords, AnyCuttingLaw, FilledContai
 use Rattle.summaries_engine.specs.declared.unions.Difference.{Difference}
 use Rattle.summaries_engine.specs.Named.{AreNamed, LoadedBefore, Named, StopsUniting, misfit_text}
 use Rattle.summaries_engine.proofs.FilledLemmas.{Builder}
+use Rattle.summaries_engine.proofs.NameLemmas.{AllZip-more}
 use Rattle.summaries_engine.proofs.RefusalLemmas.{misfit-differs, union-fits}
 use Rattle.summaries_engine.proofs.ShardLemmas.{unites-shards}
 use Rattle.summaries_engine.proofs.UnionLemmas.{union-first, union-next}
-
--- one name and its filter more
-named-more : (has : Named) (names : List (List ℕ)) (name : List ℕ) (filters : List AnyFilter)
-    (f : AnyFilter) → AreNamed has names filters → has name f
-    → AreNamed has (names ++ name ∷ []) (filters ++ f ∷ [])
-named-more has [] name [] f are one = (one, tt)
-named-more has [] name (g ∷ filters) f are one = absurd are
-named-more has (other ∷ names) name [] f are one = absurd are
-named-more has (other ∷ names) name (g ∷ filters) f are one =
-    (are.0, named-more has names name filters f are.1 one)
 
 module _ (has : Named) (first : List ℕ) where
   -- the filters of the first name and of some others are united
@@ -40,7 +31,7 @@ module _ (has : Named) (first : List ℕ) where
         let all = so_far.filter ∷ so_far.filters in record {
           filter = so_far.filter;
           filters = so_far.filters ++ shard ∷ [];
-          named = named-more has (first ∷ others) name all shard so_far.named there;
+          named = AllZip-more has (first ∷ others) all name shard so_far.named there;
           union = union-next all whole shard new so_far.union fits unites;
         }
 

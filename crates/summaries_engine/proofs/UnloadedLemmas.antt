@@ -2,7 +2,7 @@
 use Rattle.std.proofs.Common.{◌≡◌, ◌⊎◌, inl, inr, ℕ, ◌<◌, false, List, ◌++◌, take, Option, Some, None, IfSome, sym, subst, ◌∙◌}
 use Rattle.std.specs.declared.io.ErrorKind.{ErrorKind}
 use Rattle.std.specs.Fmt.{option_append}
-use Rattle.summaries_engine.proofs.Common.{starts_with, nat_eq, HasMessage, Error, Layout, Form, AnyFilter, Stop, Memory, Input, Bad, Output, parts_of}
+use Rattle.summaries_engine.proofs.Common.{starts_with, nat_eq, HasMessage, Error, Layout, Form, AnyFilter, Stop, Bad, parts_of}
 use Rattle.bloom_files.specs.declared.error.FileError.{FileError}
 use Rattle.bloom_files.specs.declared.error.FileError.TheVariants as file_error
 use Rattle.bloom_files.specs.FileLayouts.{IsReadIn, refusal_in}
@@ -13,19 +13,14 @@ use Rattle.summaries_engine.proofs.LoadedLemmas.{HasRead, layout-first, no-mark}
 -- memory and a failed read aren't said of what was read
 pub elsewhere : (P : Error → Type 0) (stop : Stop) → IsMemory stop ⊎ IsInputStop P stop
     → IsBad (λ said. Unit {0}) stop → ⊥
-elsewhere P Memory told bad = bad
-elsewhere P (Input said) told bad = bad
 elsewhere P (Bad said) (inl memory) bad = memory
 elsewhere P (Bad said) (inr input) bad = input
-elsewhere P (Output said) told bad = bad
+elsewhere P stop told bad = bad
 
 -- what is reported about a file's error is right
 reported-right : (layout : Layout) (bytes name : List ℕ) (error : FileError) (stop : Stop)
     → IsReportedOf name error stop → IsReadIn layout bytes (Some error)
     → IsRightIn layout bytes name stop
-reported-right layout bytes name error Memory told read = inl (λ bad. bad)
-reported-right layout bytes name error (Input said) told read = inl (λ bad. bad)
-reported-right layout bytes name error (Output said) told read = inl (λ bad. bad)
 reported-right layout bytes name error (Bad said) told read =
     inr ((error, refused read), told.other told.memory input)
   where
@@ -36,6 +31,7 @@ reported-right layout bytes name error (Bad said) told read =
     refused (inl is) = sym is
     refused (inr (inl is)) = absurd (told.memory (cc (is.0)))
     refused (inr (inr is)) = absurd (input is.0 (cc (is.1)))
+reported-right layout bytes name error stop told read = inl (λ bad. bad)
 
 -- what is reported about a file's error is right, where its first bytes were read before
 pub file-right : (layout : Layout) (start name : List ℕ) (rest known : Option (List ℕ))
@@ -63,7 +59,7 @@ layout-right (Some all) (Some rest) buffer n name stop layout read is right =
     of (inl told) = inl told
     of (inr (refused, says)) = inr (
       (λ begins. subst (λ l. (error : FileError) × (refusal_in l all ≡ Some error))
-          (is ∙ layout-first all rest buffer n read) refused),
+          (is ∙ layout-first read) refused),
       says,
     )
 
@@ -79,7 +75,7 @@ text-right (Some all) (Some rest) buffer n name stop read other (inl memory) =
 text-right (Some all) (Some rest) buffer n name stop read other (inr (inl input)) =
     inl (elsewhere _ stop (inr input))
 text-right (Some all) (Some rest) buffer n name stop read other (inr (inr none)) =
-    inr ((λ begins. absurd (no-mark all rest buffer n read other begins)), none)
+    inr ((λ begins. absurd (no-mark read other begins)), none)
 
 -- a filter has more hashes than are allowed
 pub many-right : (old : Option (List ℕ)) (name : List ℕ) (most : ℕ) (stop : Stop)
@@ -93,8 +89,6 @@ many-right (Some bytes) name most stop filter form is many says = inr (of stop s
     of : (stop : Stop)
         → IsBad (HasMessage (Some (hashes_text name (parts_of filter).hashes most))) stop
         → IsBad (HasHashesOf bytes name most) stop
-    of Memory says = says
-    of (Input said) says = says
     of (Bad said) says = record {
       filter = filter;
       form = form;
@@ -102,4 +96,4 @@ many-right (Some bytes) name most stop filter form is many says = inr (of stop s
       many = many;
       says = says;
     }
-    of (Output said) says = says
+    of stop says = says

@@ -1,7 +1,6 @@
 -- Keys at the front of some bytes, each of which has its end there, which the byte `end` is. This
 -- project's own.
 use Rattle.std.specs.Prelude.{◌≡◌, ℕ, ◌≤◌, true, List, ◌∷◌, ◌++◌, length, map, Option}
-use Rattle.std.specs.Io.KnownBytes.{Appends}
 use Rattle.bloom_parts.specs.Keys.{key_of}
 use Rattle.bloom_parts.specs.Sip.{sip}
 use Rattle.lines.specs.Lines.{IsEndedBy, has_no_end_by, lines_by}
@@ -9,7 +8,7 @@ use Rattle.lines.specs.Reading.{AreShort}
 use Rattle.lines.specs.Writing.{AppendsPart}
 use Rattle.summaries_engine.specs.declared.answers.Wanted.{Wanted}
 use Rattle.summaries_engine.specs.declared.kinds.AnyFilter.{AnyFilter}
-use Rattle.summaries_engine.specs.Answers.{wanted_text}
+use Rattle.summaries_engine.specs.Answers.{WritesWanted, wanted_text}
 use Rattle.summaries_engine.specs.Kinds.{parts_of}
 
 -- bytes begin with a key that isn't too long and its end, and the rest follows
@@ -44,7 +43,7 @@ pub record AnswersFirst (f : AnyFilter) (wanted : Wanted) (end : ℕ) (bytes res
   pub keys : List (List ℕ)
   pub cuts : CutsKeys end bytes rest keys
   pub counted : n ≡ length keys
-  pub text : Appends from to (wanted_text f wanted end keys)
+  pub done : WritesWanted f wanted end from to keys
 
 -- a write failed within the text of some of the first keys of some bytes
 pub record AnswersPart (f : AnyFilter) (wanted : Wanted) (end : ℕ) (bytes : List ℕ)

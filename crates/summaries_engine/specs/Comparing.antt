@@ -77,10 +77,9 @@ bits_text first second either both =
 -- a text tells two filters of one kind: of blocked ones how many bits are set
 abbrev pub TellsTwo : AnyFilter → AnyFilter → List ℕ → Type 0
 TellsTwo (Classic f) (Classic g) text = TellsBoth f g text
-TellsTwo (Classic f) (Blocked g) text = ⊥
-TellsTwo (Blocked f) (Classic g) text = ⊥
 TellsTwo (Blocked f) (Blocked g) text =
     text ≡ bits_text (ones_of f) (ones_of g) (ones_of_either f g) (ones_of_both f g)
+TellsTwo f g text = ⊥
 
 -- the filters of two names have one kind, shape and key, and a text tells them
 pub record ComparesNamed (has : Named) (one other : List ℕ) (text : List ℕ) : Type 0 where

@@ -12,10 +12,9 @@ use Rattle.fastbloom.specs.Replies.{InsertsAll}
 -- where fewer are left, and then none is left
 abbrev pub InsertParts : ℕ → List DefaultFilter → List ℕ → List DefaultFilter → Type 0
 InsertParts size [] hashes [] = hashes ≡ []
-InsertParts size [] hashes (new ∷ after) = ⊥
-InsertParts size (old ∷ before) hashes [] = ⊥
 InsertParts size (old ∷ before) hashes (new ∷ after) =
     InsertsAll old (take size hashes) new × InsertParts size before (drop size hashes) after
+InsertParts size before hashes after = ⊥
 
 -- a filter has the shape and the hasher of another
 pub record IsLike (first f : DefaultFilter) : Type 0 where

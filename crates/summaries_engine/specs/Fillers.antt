@@ -1,5 +1,6 @@
 -- What takes the hashes of keys, some at once, and what it took so far. This project's own.
-use Rattle.std.proofs.Common.{◌≡◌, ℕ, List, [], ◌++◌, sym, subst, refl, append-nil}
+use Rattle.std.proofs.Common.{◌≡◌, ℕ, List, [], ◌++◌, map, sym, subst, refl, append-nil}
+use Rattle.bloom_parts.specs.Sip.{sip}
 use Rattle.fastbloom.specs.declared.parallel.shape.Shape.{Shape}
 use Rattle.summaries_engine.specs.declared.kinds.AnyFilter.{AnyFilter}
 use Rattle.summaries_engine.specs.Kinds.{HaveSameKind, parts_of}
@@ -27,3 +28,9 @@ pub record HasTaken {F : Type 0} (took : F → List ℕ → F → Type 0) (first
   pub earlier : List ℕ
   pub taken : took first earlier now
   pub are : hashes ≡ earlier ++ waiting
+
+-- the hashes, under a key, of these keys were taken behind whatever hashes came before
+pub record TakesKeys {F : Type 0} (took : F → List ℕ → F → Type 0) (key : ℕ × ℕ) (from : F)
+    (waited : List ℕ) (now : F) (waits : List ℕ) (keys : List (List ℕ)) : Type 0 where
+  pub taken : (first : F) (hashes : List ℕ) → HasTaken took first from waited hashes
+      → HasTaken took first now waits (hashes ++ map (sip key.0 key.1) keys)

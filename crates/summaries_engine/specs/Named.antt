@@ -1,5 +1,6 @@
 -- Filters that have names, and why they aren't united. A name is its list of bytes.
 use Rattle.std.specs.Prelude.{◌≡◌, ◌⊎◌, ℕ, codes, List, [], ◌∷◌, ◌++◌, get_or, All, ⊤}
+use Rattle.std.specs.List.{AllZip}
 use Rattle.summaries_engine.specs.declared.kinds.AnyFilter.{AnyFilter}
 use Rattle.summaries_engine.specs.declared.stop.Stop.{Stop}
 use Rattle.summaries_engine.specs.declared.unions.Difference.{Difference}
@@ -13,10 +14,7 @@ Named = List ℕ → AnyFilter → Type 0
 
 -- each filter lies under the name with its index, and there are no others
 abbrev pub AreNamed : Named → List (List ℕ) → List AnyFilter → Type 0
-AreNamed has [] [] = ⊤
-AreNamed has [] (f ∷ filters) = ⊥
-AreNamed has (name ∷ names) [] = ⊥
-AreNamed has (name ∷ names) (f ∷ filters) = has name f × AreNamed has names filters
+AreNamed has names filters = AllZip has names filters
 
 -- these filters lie under the names before this one
 pub record LoadedBefore (has : Named) (names : List (List ℕ)) (filters : List AnyFilter)

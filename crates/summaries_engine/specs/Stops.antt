@@ -2,18 +2,17 @@
 -- is Some of the bytes, or None where it doesn't tell, and the byte `end` ends a key. These
 -- definitions are this project's own.
 use Rattle.std.specs.Prelude.{◌≡◌, ◌⊎◌, ℕ, ◌-◌, ◌^◌, codes, List, ◌++◌, length, Option, None, Some, ⊤}
-use Rattle.std.specs.Io.KnownBytes.{Appends}
 use Rattle.anyhow.specs.Error.{IsContextOn, IsMadeOf}
 use Rattle.anyhow.specs.declared.error.Error.{Error}
 use Rattle.std.specs.declared.io.ErrorKind.{ErrorKind}
 use Rattle.std.specs.declared.io.ErrorKind.TheVariants.{OutOfMemory}
-use Rattle.lines.specs.Reading.{AreShort, IsReadFromBy, IsReadToLongBy}
+use Rattle.lines.specs.Reading.{IsReadToLongBy}
 use Rattle.lines.specs.Writing.{AppendsPart}
 use Rattle.summaries_engine.specs.declared.answers.Wanted.{Wanted}
 use Rattle.summaries_engine.specs.declared.kinds.AnyFilter.{AnyFilter}
 use Rattle.summaries_engine.specs.declared.stop.Stop.{Stop}
 use Rattle.summaries_engine.specs.declared.stop.Stop.TheVariants.{Memory, Input, Bad, Output}
-use Rattle.summaries_engine.specs.Answers.{wanted_text}
+use Rattle.summaries_engine.specs.Answers.{ReadsFirst, WritesWanted, wanted_text}
 use Rattle.summaries_engine.specs.Refusals.{too_long_text}
 
 -- the error says this and has no cause
@@ -27,30 +26,22 @@ SaysOver text said = IsContextOn (IsMadeOf None) (Some text) said
 -- memory was out
 abbrev pub IsMemory : Stop → Type 0
 IsMemory Memory = ⊤
-IsMemory (Input said) = ⊥
-IsMemory (Bad said) = ⊥
-IsMemory (Output said) = ⊥
+IsMemory stop = ⊥
 
 -- an input wasn't had, or a read failed, and of what is said this holds
 abbrev pub IsInputStop : (Error → Type 0) → Stop → Type 0
-IsInputStop P Memory = ⊥
 IsInputStop P (Input said) = P said
-IsInputStop P (Bad said) = ⊥
-IsInputStop P (Output said) = ⊥
+IsInputStop P stop = ⊥
 
 -- an input isn't what it should be, and of what is said this holds
 abbrev pub IsBad : (Error → Type 0) → Stop → Type 0
-IsBad P Memory = ⊥
-IsBad P (Input said) = ⊥
 IsBad P (Bad said) = P said
-IsBad P (Output said) = ⊥
+IsBad P stop = ⊥
 
 -- a write failed, and of what is said this holds
 abbrev pub IsOutput : (Error → Type 0) → Stop → Type 0
-IsOutput P Memory = ⊥
-IsOutput P (Input said) = ⊥
-IsOutput P (Bad said) = ⊥
 IsOutput P (Output said) = P said
+IsOutput P stop = ⊥
 
 -- a write failed, and that the keys can't be written is said
 abbrev pub IsUnwritten : Stop → Type 0
@@ -80,34 +71,15 @@ IsReasonAfter end name read keys stop = IsUnreadable name stop
     × IsBad (Says (too_long_text name (length keys))) stop)
     ⊎ ((length keys ≡ 2 ^ 64 - 1) × IsBad (Says (name ++ codes ": it has too many keys")) stop)
 
--- a run stopped behind these first keys, none of which is too long, and `Done` holds of them
-pub record StopsAfter (end : ℕ) (name : List ℕ) (read : Option (List ℕ))
-    (Done : List (List ℕ) → Type 0) (stop : Stop) : Type 0 where
-  pub keys : List (List ℕ)
-  pub first : IsReadFromBy end read keys
-  pub short : AreShort 65536 keys
-  pub done : Done keys
-  pub reason : IsReasonAfter end name read keys stop
-
--- hashing stopped before the last key
+-- hashing stopped behind these first keys, before the last key
 abbrev pub StopsHashing : ℕ → List ℕ → Option (List ℕ) → Stop → Type 0
-StopsHashing end name read stop = StopsAfter end name read (λ keys. Unit {0}) stop
+StopsHashing end name read stop =
+    ReadsFirst end read (λ keys. IsReasonAfter end name read keys stop)
 
--- a write failed within the replies for earlier keys and these first keys, none of which is too
--- long: what was written is a beginning of their text
-pub record StopsWriting (f : AnyFilter) (wanted : Wanted) (end : ℕ) (earlier : List (List ℕ))
-    (read from to : Option (List ℕ)) (stop : Stop) : Type 0 where
-  pub keys : List (List ℕ)
-  pub first : IsReadFromBy end read keys
-  pub short : AreShort 65536 keys
-  pub part : AppendsPart (wanted_text f wanted end (earlier ++ keys)) from to
-  pub says : IsUnwritten stop
-
--- the run stopped after the replies for earlier keys and these first keys were written, or within a
--- reply, where a write failed
+-- after earlier keys the run stopped behind these first keys, and the replies for all of them were
+-- written; or a write failed within the replies, and what was written is a beginning of their text
 abbrev pub StopsAnswers : AnyFilter → Wanted → ℕ → List ℕ → List (List ℕ) → Option (List ℕ)
     → Option (List ℕ) → Option (List ℕ) → Stop → Type 0
-StopsAnswers f wanted end name earlier read from to stop =
-    StopsAfter end name read
-    (λ keys. Appends from to (wanted_text f wanted end (earlier ++ keys))) stop
-    ⊎ StopsWriting f wanted end earlier read from to stop
+StopsAnswers f wanted end name earlier read from to stop = ReadsFirst end read (λ keys.
+    WritesWanted f wanted end from to (earlier ++ keys) × IsReasonAfter end name read keys stop
+    ⊎ AppendsPart (wanted_text f wanted end (earlier ++ keys)) from to × IsUnwritten stop)

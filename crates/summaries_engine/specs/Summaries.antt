@@ -1,7 +1,7 @@
 -- What a filter is to keys, and united filters to the keys of all. A key is a list of bytes, whose
 -- hash is SipHash-1-3 under the filter's own key. That is this project's own.
-use Rattle.std.specs.Prelude.{◌≡◌, ◌↔◌, ℕ, ◌*◌, ◌/◌, Bool, true, List, [], ◌∷◌, length, map, flat_map, All, ⊤}
-use Rattle.std.specs.List.{list_any, Contains}
+use Rattle.std.specs.Prelude.{◌≡◌, ◌↔◌, ℕ, ◌*◌, ◌/◌, Bool, true, List, length, map, flat_map, All}
+use Rattle.std.specs.List.{AllZip, Contains, list_any}
 use Rattle.bloom_parts.specs.Content.{content, AreWords}
 use Rattle.bloom_parts.specs.Keys.{key_of}
 use Rattle.bloom_parts.specs.Sip.{sip}
@@ -38,11 +38,7 @@ IsSummaryOf shape keys f = IsFilled shape (map (hash_in f) keys) f
 
 -- each filter is the summary of its part of the keys
 abbrev pub AreSummariesOf : Shape → List (List (List ℕ)) → List AnyFilter → Type 0
-AreSummariesOf shape [] [] = ⊤
-AreSummariesOf shape [] (f ∷ filters) = ⊥
-AreSummariesOf shape (keys ∷ parts) [] = ⊥
-AreSummariesOf shape (keys ∷ parts) (f ∷ filters) =
-    IsSummaryOf shape keys f × AreSummariesOf shape parts filters
+AreSummariesOf shape parts filters = AllZip (IsSummaryOf shape) parts filters
 
 -- the keys of all parts
 abbrev pub joined : List (List (List ℕ)) → List (List ℕ)

@@ -3,7 +3,7 @@ ghost use Rattle.std.specs.Prelude.{◌≡◌, ◌≤◌, ◌<◌, ◌*◌, [], 
 ghost use Rattle.std.specs.Io.KnownBytes.{Appends, Keeps};
 ghost use Rattle.bloom_parts.specs.Content.{content};
 ghost use Rattle.lines.specs.Writing.{AppendsPart};
-ghost use Rattle.summaries_engine.specs.Answers.{IsKeyed, AnswersAll, is_wanted, reply_text};
+ghost use Rattle.summaries_engine.specs.Answers.{IsKeyed, ReadsAll, WritesWanted, is_wanted, reply_text};
 ghost use Rattle.summaries_engine.specs.Batches.{AnswersFirst, AnswersPart, HashesSome};
 ghost use Rattle.summaries_engine.specs.Inputs.{AnswersInputs, StopsAsking};
 ghost use Rattle.summaries_engine.specs.Stops.{IsUnwritten, StopsAnswers};
@@ -164,8 +164,8 @@ fn ask_input<const END: u8, I: Read, O: Write>(
     output: &mut O,
 ) -> Result<(), Stop>
     requires { IsKeyed filter.now }
-    ensures all { OnOk result (AnswersAll filter.now wanted END (I.remaining input.old)
-        (I.remaining input.new) (O.contents output.old) (O.contents output.new)) }
+    ensures all { OnOk result (ReadsAll END (I.remaining input.old) (I.remaining input.new)
+        (WritesWanted filter.now wanted END (O.contents output.old) (O.contents output.new))) }
     ensures stops { IfErr result (StopsAnswers filter.now wanted END name.now []
         (I.remaining input.old) (O.contents output.old) (O.contents output.new)) }
 {

@@ -3,9 +3,9 @@ ghost use Rattle.std.specs.Prelude.{◌≡◌, ◌≤◌, ℕ, codes, List, [], 
 ghost use Rattle.std.specs.IoError.{error_kind};
 ghost use Rattle.bloom_parts.specs.Keys.{HasKey};
 ghost use Rattle.bloom_parts.specs.Sip.{sip};
-ghost use Rattle.summaries_engine.specs.Answers.{HashesAll};
+ghost use Rattle.summaries_engine.specs.Answers.{ReadsAll};
 ghost use Rattle.summaries_engine.specs.Batches.{HashesFirst};
-ghost use Rattle.summaries_engine.specs.Fillers.{HasTaken};
+ghost use Rattle.summaries_engine.specs.Fillers.{HasTaken, TakesKeys};
 ghost use Rattle.summaries_engine.specs.Inputs.{HashesInputs, StopsHashes};
 ghost use Rattle.summaries_engine.specs.Refusals.{too_long_text};
 ghost use Rattle.summaries_engine.specs.Stops.{IsBad, IsMemory, IsUnreadAs, IsUnreadable, Says, StopsHashing};
@@ -140,10 +140,8 @@ fn take_keys<const END: u8, F: Filler, I: Read>(
 ) -> Result<(), Stop>
     requires { F.ready filler.old }
     ensures ready { OnOk result (F.ready filler.new) }
-    ensures all { OnOk result ((first : F) (hashes : List ℕ)
-        → HasTaken F.took first filler.old waiting.old.items hashes → (more : List ℕ)
-        × HashesAll key END (I.remaining input.old) (I.remaining input.new) hashes more
-        × HasTaken F.took first filler.new waiting.new.items more) }
+    ensures all { OnOk result (ReadsAll END (I.remaining input.old) (I.remaining input.new)
+        (TakesKeys F.took key filler.old waiting.old.items filler.new waiting.new.items)) }
     // Why not all were taken.
     ensures stops { IfErr result (StopsHashing END name.now (I.remaining input.old)) }
 {

@@ -1,9 +1,11 @@
 //! Empty filters of a size, and for some keys at a rate of false positives.
-ghost use Rattle.std.specs.Prelude.{◌≡◌, max, length, IfOk};
+ghost use Rattle.std.specs.Prelude.{◌≡◌, ℕ, max, length, IfOk};
 ghost use Rattle.std.specs.Result.{result_err};
-ghost use Rattle.fastbloom.specs.BlockedSizing.{line_bits_refusal, line_words_for};
-ghost use Rattle.fastbloom.specs.Builders.{RefusesAs, bits_refusal, words_for};
-ghost use Rattle.summaries_engine.specs.Sizes.{HasSeed, IsClassicFor, IsEmpty, IsSizedFor, IsUnmadeFor, IsUnsizedFor};
+ghost use Rattle.bloom_parts.specs.Rates.{den_of, num_of};
+ghost use Rattle.bloom_parts.specs.Sizing.{IsSizeFor};
+ghost use Rattle.fastbloom.specs.BlockedSizing.{IsMadeInLinesFor, IsSizeInLines, line_bits_refusal, line_size_refusal, line_words_for};
+ghost use Rattle.fastbloom.specs.Builders.{IsMadeFor, RateStart, RefusesAs, bits_refusal, size_refusal, words_for};
+ghost use Rattle.summaries_engine.specs.Sizes.{HasSeed, IsEmpty};
 
 use fastbloom::{BlockedBloomFilter, BloomFilter, FilterError, Rate};
 use std::alloc::Global;
@@ -44,8 +46,10 @@ pub fn classic_for(
 ) -> Result<BloomFilter, FilterError>
     ensures empty { IfOk result IsEmpty }
     ensures key { IfOk result (λ filter. HasSeed filter seed.now) }
-    ensures sized { IfOk result (IsClassicFor keys rate) }
-    ensures refused { IsUnmadeFor keys rate (result_err result) }
+    ensures made { IfOk result (λ filter.
+        (start : RateStart _) × (start.rate ≡ rate) × IsMadeFor start keys filter) }
+    ensures refused { (bits : ℕ) × IsSizeFor (max 1 keys) (num_of rate) (den_of rate) bits
+        × RefusesAs (size_refusal bits) (result_err result) }
 {
     BloomFilter::with_false_pos(rate)
         .seed(seed)
@@ -88,8 +92,10 @@ pub fn blocked_for(
 ) -> Result<BlockedBloomFilter, FilterError>
     ensures empty { IfOk result IsEmpty }
     ensures key { IfOk result (λ filter. HasSeed filter seed.now) }
-    ensures sized { IfOk result (IsSizedFor keys rate) }
-    ensures refused { IsUnsizedFor keys rate (result_err result) }
+    ensures made { IfOk result (λ filter.
+        (start : RateStart _) × (start.rate ≡ rate) × IsMadeInLinesFor start keys filter) }
+    ensures refused { (bits : ℕ) × IsSizeInLines (max 1 keys) (num_of rate) (den_of rate) bits
+        × RefusesAs (line_size_refusal bits) (result_err result) }
 {
     BlockedBloomFilter::with_false_pos(rate)
         .seed(seed)

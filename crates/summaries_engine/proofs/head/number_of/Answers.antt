@@ -1,5 +1,5 @@
 use Rattle.std.proofs.Common.{arith}
-use Rattle.summaries_engine.proofs.SealLemmas.{number-there}
+use Rattle.summaries_engine.proofs.LoadedLemmas.{number-there}
 use Rattle.summaries_engine.proofs.head.number_of.Goals as goal
 
 -- the number of the chunk there

@@ -1,12 +1,14 @@
 use Rattle.std.proofs.Common.{◌-◌, ◌^◌}
-use Rattle.summaries_engine.proofs.KeyLemmas.{IsTaking}
+use Rattle.summaries_engine.specs.Fillers.{TakesKeys}
+use Rattle.summaries_engine.proofs.KeyLemmas.{HasRead}
 use Rattle.summaries_engine.proofs.keys.take_keys.Given as goal
 
 -- the keys so far were taken
 abbrev pub invariant-keys : goal.invariant-keys
 invariant-keys g l =
-    IsTaking g.F.Filler.took l.fn.key g.row.END (g.I.Read.remaining l.fn.input) l.lines
-    (g.I.Read.remaining l.input) l.number l.fn.filler l.filler l.fn.waiting.items l.waiting.items
+    HasRead g.row.END (g.I.Read.remaining l.fn.input) l.lines (g.I.Read.remaining l.input)
+    l.number
+    (TakesKeys g.F.Filler.took l.fn.key l.fn.filler l.fn.waiting.items l.filler l.waiting.items)
     × g.F.Filler.ready l.filler
 
 -- the numbers that are left

@@ -1,6 +1,6 @@
 use Rattle.std.proofs.Common.{◌≡◌, ◌++◌, [], ◌∷◌, arith, refl, subst, sym}
 use Rattle.std.proofs.lemmas.List.{length-append}
-use Rattle.summaries_engine.proofs.Common.{All-append, All-cons, HoldTogether}
+use Rattle.summaries_engine.proofs.Common.{All-push, HoldTogether}
 use Rattle.summaries_engine.proofs.CrewLemmas.{copies-hold}
 use Rattle.summaries_engine.proofs.crew.Crew.new.Goals as goal
 
@@ -12,5 +12,4 @@ returns-clause-none g c =
     subst (HoldTogether empty []) (sym c.in_ok-push-2.ensures.items)
     (copies-hold empty c.requires.empty (copies ++ empty ∷ [])
     (omega (arith, length-append copies (empty ∷ [])))
-    (All-append (λ f. f ≡ empty) copies (empty ∷ []) c.filters.invariant.copies
-    (All-cons (λ f. f ≡ empty) empty [] refl (λ k d low. absurd (omega (arith, low))))))
+    (All-push (λ f. f ≡ empty) copies empty c.filters.invariant.copies refl))
