@@ -5,6 +5,7 @@ use Rattle.bloom_steps.proofs.Common.{take-length, both_ways, false_from_ne_true
 use Rattle.bloom_steps.proofs.RunLemmas.Changes.{DecidesOnly, TurnsOff, moment-more, or-decides_only, persists}
 use Rattle.bloom_steps.proofs.RunLemmas.RecordedCalls.{step_held}
 use Rattle.bloom_steps.proofs.RunLemmas.PlacedSteps.{IsPlacedAt}
+use Rattle.bloom_steps.proofs.RunLemmas.Scripted.{EachStep}
 use Rattle.bloom_steps.proofs.StepLemmas.Going.{step-pair}
 use Rattle.bloom_steps.proofs.StepLemmas.Members.{some_member}
 
@@ -47,10 +48,7 @@ not_off run m q r g only off =
 
 -- no step of a run decides to clear a position
 abbrev pub NoneMakesOff : Course → ℕ → Type 0
-NoneMakesOff run q =
-    (m p : ℕ) (step : Step) (found : ℕ) (e : End) → slice_get run.records m ≡ Some
-    (Did p step found e)
-    → DecidesOnly (Some true) q step
+NoneMakesOff run q = EachStep (DecidesOnly (Some true) q) run
 
 -- where no step decides to clear a position, no record clears it
 pub none_off : (run : Course) (q : ℕ) → NoneMakesOff run q → (m : ℕ) → m < length run.records

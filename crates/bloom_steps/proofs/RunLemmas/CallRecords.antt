@@ -1,16 +1,11 @@
 -- The records of a call among those of its party.
-use Rattle.std.proofs.Common.{[], ◌++◌, ◌<◌, ◌∙◌, ◌∷◌, ◌≡◌, ◌≢◌, ◌⊎◌, List, Some, ap, arith, inl, inr, refl, slice_get, subst, suc, sym, take, zero, ℕ}
-use Rattle.bloom_steps.proofs.Common.{append-nil, none-some, same_Some, Call, End, Running, Record, Began, Did, Step, IsBeginning, IsScript, Taken, CallAfterCall, begun_call, did, no_call, party_of, records_of, whole_call}
+use Rattle.std.proofs.Common.{[], ◌++◌, ◌<◌, ◌∙◌, ◌∷◌, ◌≡◌, ◌≢◌, ◌⊎◌, List, Some, ap, arith, drop, inl, inr, length, refl, slice_get, subst, suc, sym, take, zero, ℕ}
+use Rattle.std.proofs.Math.Seq.{drop-append_seam}
+use Rattle.bloom_steps.proofs.Common.{none-some, same_Some, slice_get_within, Call, End, Running, Record, Began, Did, Step, IsBeginning, IsScript, Taken, CallAfterCall, call_records, did, party_of, records_of}
+use Rattle.bloom_steps.proofs.RunLemmas.RecordedCalls.{of_call, which_of}
 use Rattle.bloom_steps.proofs.RunLemmas.RunningCalls.{OneEnd, one_end-later}
 use Rattle.bloom_steps.proofs.RunLemmas.PartyRecords.{mine_or_not, records_of-mine, records_of-none, records_of-other}
-
--- no call begins among the steps of a script
-strip : (p : ℕ) (s : List Taken) (later pre post : List Record) (call : Call)
-    → did p s ++ later ≡ pre ++ Began p call ∷ post
-    → (pre' : List Record) × (later ≡ pre' ++ Began p call ∷ post)
-strip p [] later pre post call e = (pre, e)
-strip p (t ∷ s) later [] post call e = absurd (cc)
-strip p (t ∷ s) later (x ∷ pre) post call e = strip p s later pre post call (cc)
+use Rattle.bloom_steps.proofs.StepLemmas.Members.{member-seam}
 
 -- the script or beginning that follows a Began
 pub record Segment (w k p : ℕ) (call : Call) (post : List Record) : Type 0 where
@@ -22,38 +17,29 @@ pub record Segment (w k p : ℕ) (call : Call) (post : List Record) : Type 0 whe
 -- each beginning among a party's records is followed by one
 pub segment : (w k p : ℕ) (rs pre post : List Record) (call : Call) → CallAfterCall w k p rs
     → rs ≡ pre ++ Began p call ∷ post → Segment w k p call post
-segment w k p [] [] post call no_call e = absurd (cc)
-segment w k p [] (x ∷ pre) post call no_call e = absurd (cc)
-segment w k p (r ∷ rs) [] post call (begun_call c s b) e =
-    let same : c ≡ call = cc in
-    let tail : did p s ≡ post = cc in
-    record {
-      s = s;
-      later = [];
-      same = sym tail ∙ sym (append-nil (did p s));
-      kind = inr (subst (λ x. IsBeginning w k x s) same b, refl);
-    }
-segment w k p (r ∷ rs) (x ∷ pre) post call (begun_call c s b) e =
-    let tail : did p s ++ [] ≡ pre ++ Began p call ∷ post = append-nil (did p s) ∙ cc in
-    let no = strip p s [] pre post call tail in
-    absurd (nil_no no.0 no.1)
-  where
-    nil_no : (xs : List Record) → [] ≡ xs ++ Began p call ∷ post → ⊥
-    nil_no [] f = cc
-    nil_no (y ∷ ys) f = cc
-segment w k p (r ∷ rs) [] post call (whole_call c s later b more) e =
-    let same : c ≡ call = cc in
-    let tail : did p s ++ later ≡ post = cc in
-    record {
-      s = s;
-      later = later;
-      same = sym tail;
-      kind = inl (subst (λ x. IsScript w k x s) same b);
-    }
-segment w k p (r ∷ rs) (x ∷ pre) post call (whole_call c s later b more) e =
-    let tail : did p s ++ later ≡ pre ++ Began p call ∷ post = cc in
-    let at = strip p s later pre post call tail in
-    segment w k p later at.0 post call more at.1
+segment w k p rs pre post call calls e =
+    let first = Began p call in
+    let i = length pre in
+    let here : slice_get rs i ≡ Some first =
+    ap (λ l. slice_get l i) e ∙ member-seam pre post first in
+    let of = of_call w k p rs i calls (slice_get_within rs i first here) in
+    let own = call_records p of.call of.s ++ of.later in
+    elim (which_of w k p rs i first of here) [
+      | inl (at_first, is) ↦
+          let place : i ≡ length of.earlier = omega (arith, of.at, at_first) in
+          let both : first ∷ post ≡ own =
+          sym (drop-append_seam pre (first ∷ post)) ∙ ap (drop i) (sym e ∙ of.all)
+          ∙ ap (λ n. drop n (of.earlier ++ own)) place ∙ drop-append_seam of.earlier own in
+          let same : of.call ≡ call = cc in
+          record {
+            s = of.s;
+            later = of.later;
+            same = cc;
+            kind = subst (λ c. IsScript w k c of.s ⊎ (IsBeginning w k c of.s × (of.later ≡ [])))
+                same of.kind;
+          }
+      | inr (j, t, place, got, is) ↦ absurd (cc)
+    ]
 
 -- up to the record at n a party's records don't end its call, and that at n does
 pub record EndsAt (mid : List Record) (p n : ℕ) (last : Taken) : Type 0 where

@@ -1,9 +1,7 @@
 -- Whole calls, one after the other, act as the list of their commands.
 use Rattle.std.proofs.Common.{[], ◌*◌, ◌∙◌, ◌∷◌, ◌≡◌, ◌≤◌, Bool, List, None, Option, Some, ap, option_map, length, map, refl, slice_get, subst, suc, sym, take, unwrap_or, zero, ℕ}
 use Rattle.bloom_steps.proofs.Common.{none-some, same_Some, content, Call, Record, Began, are_in, answer_of, ActsAs, ActsAsCommands, Cut, MadeCall, command_of, commands_of, cut, other_words, after_records, Course, IsLawful, call_records, did}
-use Rattle.bloom_parts.specs.Operations.{asked_by}
-use Rattle.bloom_parts.specs.Operations.{Operation, decides, state_after}
-use Rattle.bloom_parts.specs.Operations.{reply}
+use Rattle.bloom_parts.specs.Operations.{Operation, asked_by, decides, reply, state_after}
 use Rattle.bloom_steps.proofs.RunLemmas.CallSets.{call-steps}
 use Rattle.bloom_steps.proofs.RunLemmas.CallReplies.{call-answer}
 use Rattle.bloom_steps.proofs.RunLemmas.Bounds.{moment-past}
@@ -90,11 +88,10 @@ acts w k A _ _ some_hashes (next_call p call s later made is more) f =
         (next (commands_of (take i made)))
 
 -- one call at a time behaves as the list of commands
-pub acts_as_commands : (k : ℕ) (run : Course) → IsLawful k run → 1 ≤ length run.start → 1 ≤ k
-    → ActsAsCommands k run
-acts_as_commands k run lawful some_words some_hashes one ended =
+pub acts_as_commands : (k : ℕ) (run : Course) → IsLawful k run → 1 ≤ k → ActsAsCommands k run
+acts_as_commands k run lawful some_hashes one ended =
     let w = length run.start in
-    let made = one_by_one w k some_words some_hashes run.records lawful.calls one ended in
+    let made = one_by_one w k run.records lawful.calls one ended in
     let fits : Fits w (content run.start) run.records =
     record { finds = lawful.finds; within = moment-past k run lawful } in
     let a = acts w k (content run.start) run.records made.0 some_hashes made.1 fits in

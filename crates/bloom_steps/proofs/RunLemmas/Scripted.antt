@@ -30,11 +30,14 @@ IsWithin w (Zero i) = Unit {0}
 IsWithin w (Other i) = Unit {0}
 IsWithin w (Take i) = i < w
 
+-- each step of a course has a property
+abbrev pub EachStep : (Step → Type 0) → Course → Type 0
+EachStep P run = (m party : ℕ) (step : Step) (found : ℕ) (ended : End)
+    → slice_get run.records m ≡ Some (Did party step found ended) → P step
+
 -- each step that sets bits, or takes a word, does so in one of the words
 abbrev pub StepsWithin : Course → Type 0
-StepsWithin run = (m party : ℕ) (step : Step) (found : ℕ) (ended : End)
-    → slice_get run.records m ≡ Some (Did party step found ended)
-    → IsWithin (length run.start) step
+StepsWithin run = EachStep (IsWithin (length run.start)) run
 
 -- a course whose finished calls each made the steps of one of the call's scripts
 pub record IsScripted (Script : Call → List Taken → Type 0) (run : Course) : Type 0 where
