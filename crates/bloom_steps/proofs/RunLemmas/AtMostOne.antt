@@ -1,11 +1,10 @@
 -- At most one course is lawful and follows a schedule.
 use Rattle.std.proofs.Common.{[], ◌++◌, ◌∙◌, ◌∷◌, ◌≡◌, Bool, List, ap, append_assoc, inl, inr, length, refl, subst, sym, ℕ}
-use Rattle.bloom_steps.proofs.Common.{take-append_seam, both_ways, EqualWordsLaw, content, Event, Begin, Go, Record, Did, Other, IsScript, Taken, after_records, AtMostOne, CallAfterCall, Course, FindsWhatIsThere, Follows, FollowsFrom, IsLawful, Gives, TakesStep, MayFind, next_event, no_event, records_of, runs}
+use Rattle.bloom_steps.proofs.Common.{member-seam, take-append_seam, both_ways, EqualWordsLaw, content, Event, Begin, Go, Record, Did, Other, IsScript, Taken, after_records, AtMostOne, CallAfterCall, Course, FindsWhatIsThere, Follows, FollowsFrom, IsLawful, Gives, TakesStep, MayFind, next_event, no_event, records_of, runs}
 use Rattle.bloom_steps.proofs.RunLemmas.NextSteps.{GoesAfter, goes_after, newest-same}
 use Rattle.bloom_steps.proofs.RunLemmas.PartyRecords.{records_of-append, records_of-mine}
 use Rattle.bloom_steps.proofs.RunLemmas.UniqueSteps.{end-same, found-same}
 use Rattle.bloom_steps.proofs.StepLemmas.Going.{script_next}
-use Rattle.bloom_steps.proofs.StepLemmas.Members.{member-seam}
 
 -- the next record of a party's call is one
 next-same : (w k p given : ℕ) (A : ℕ → Bool) (xs : List Record) (t u : Taken) → GoesAfter w k p xs t

@@ -1,10 +1,9 @@
 -- What the steps of one call make of a set, alone.
 use Rattle.std.proofs.Common.{[], ◌++◌, ◌+◌, ◌/◌, ◌∙◌, ◌∷◌, ◌≡◌, ◌≤◌, ◌⊎◌, Bool, List, None, Option, Some, ap, arith, false, inl, inr, length, length-append, map, refl, slice_get, subst, suc, sym, take, true, unwrap_or, zero, ℕ}
-use Rattle.bloom_steps.proofs.Common.{take-append-add, take-append-le, none-some, same_Some, slice_get_within, last_decision, Record, Step, Other, Zero, Each, Taken, after_records, record_decides, step_decides, word_index, FindsWhatIsThere, IsWordOf, MayFind, did}
+use Rattle.bloom_steps.proofs.Common.{member-back, member-front, member_of_take, take-append-add, take-append-le, none-some, same_Some, slice_get_within, last_decision, Record, Step, Other, Zero, Each, Taken, after_records, record_decides, step_decides, word_index, FindsWhatIsThere, IsWordOf, MayFind, did}
 use Rattle.std.specs.Option.{option_or}
 use Rattle.bloom_steps.proofs.RunLemmas.Changes.{DecidesOnly}
 use Rattle.bloom_steps.proofs.StepLemmas.Deciding.{records-append}
-use Rattle.bloom_steps.proofs.StepLemmas.Members.{member-back, member-front, member_of_take}
 
 -- a word of a set looks at its bits alone
 is_word-same : (A B : ℕ → Bool) (i found : ℕ) → ((q : ℕ) → A q ≡ B q) → IsWordOf A i found

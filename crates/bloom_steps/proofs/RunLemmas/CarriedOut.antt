@@ -1,6 +1,6 @@
 -- Records that were carried out on words, one after the other: what each step found, and did.
-use Rattle.std.proofs.Common.{[], ◌/◌, ◌<◌, ◌∙◌, ◌∷◌, ◌≡◌, List, Some, ap, length, map, refl, slice_get, slice_index, subst, suc, sym, take, unwrap_or, zero, ℕ}
-use Rattle.bloom_steps.proofs.Common.{none-some, same_Some, bit_is_on, content, decides_nothing, End, Record, Began, Did, Step, Or, Other, Zero, CarriedOut, IsCourseOf, CourseTells, Course, found_in, words_after_step, moment, Taken, after_records, record_decides, step_decides, word_index}
+use Rattle.std.proofs.Common.{[], ◌<◌, ◌∙◌, ◌∷◌, ◌≡◌, List, Some, ap, length, map, refl, slice_get, subst, suc, sym, take, unwrap_or, zero, ℕ}
+use Rattle.bloom_steps.proofs.Common.{none-some, same_Some, bit_is_on, content, decides_nothing, End, Record, Began, Did, Step, Or, Other, Zero, CarriedOut, IsCourseOf, CourseTells, Course, found_in, words_after_step, moment, after_records, record_decides, step_decides, word_index}
 use Rattle.bloom_steps.specs.declared.steps.vocabulary.Step.TheVariants.{Take}
 use Rattle.bloom_steps.proofs.RunLemmas.KindEnds.{kind_tells}
 use Rattle.bloom_steps.proofs.RunLemmas.Kinds.{Kind}

@@ -1,9 +1,8 @@
 -- What a record changes, and what stays.
-use Rattle.bloom_steps.proofs.Common.{Answer, Record, Did, Step, Or, and_from, and_parts, both_ways, eqb-true, not-true, eqb_tells, bit_is_on, content, moment, turns_off, turns_on, Taken, after_records, or_at, record_decides, step_decides, Course, IsLawful}
+use Rattle.bloom_steps.proofs.Common.{take-more, Answer, Record, Did, Step, Or, and_from, and_parts, both_ways, eqb-true, not-true, eqb_tells, bit_is_on, content, moment, turns_off, turns_on, Taken, after_records, or_at, record_decides, step_decides, Course, IsLawful}
 use Rattle.std.proofs.Common.{◌%◌, ◌&&◌, ◌+◌, ◌/◌, ◌<◌, ◌^◌, ◌∙◌, ◌≡◌, ◌≢◌, ◌≤◌, ◌⊎◌, Bool, None, Option, Some, ap, arith, eq-eqb, false, if◌then◌else◌, inl, inr, nat_eq, not, refl, slice_get, suc, sym, take, true, unwrap_or, zero, ℕ}
 use Rattle.std.proofs.lemmas.Nat.Bits.{bit_at-pow_other, bit_at-pow_same}
 use Rattle.bloom_steps.proofs.StepLemmas.Deciding.{records-more}
-use Rattle.bloom_steps.proofs.StepLemmas.Members.{take-more}
 
 -- the mask of a position has its bit
 own_mask : (q : ℕ) → bit_is_on (2 ^ (q % 64)) q ≡ true

@@ -1,7 +1,6 @@
 -- Events, one after the other, and what they add.
-use Rattle.bloom_steps.proofs.Common.{World, append-nil, slice_get-get_or, slice_index_or, Event, Record, FollowsFrom, Gives, next_event, no_event, RecordsGrow, IsWorldOf, Happens}
+use Rattle.bloom_steps.proofs.Common.{take-more, World, append-nil, slice_get-get_or, slice_index_or, Event, Record, FollowsFrom, Gives, next_event, no_event, RecordsGrow, IsWorldOf, Happens}
 use Rattle.std.proofs.Common.{[], ◌++◌, ◌+◌, ◌<◌, ◌∷◌, ◌≡◌, ◌≤◌, List, append_assoc, arith, length, subst, sym, take, vec_capacity, vec_len, ℕ, ◌∙◌}
-use Rattle.bloom_steps.proofs.StepLemmas.Members.{take-more}
 
 -- one event more
 follows-more :

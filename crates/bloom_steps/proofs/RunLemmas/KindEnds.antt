@@ -1,5 +1,5 @@
 -- What every interleaving of calls of any kind gives, and with it how growing courses end.
-use Rattle.std.proofs.Common.{◌/◌, ◌≡◌, Bool, List, inl, inr, true, ℕ}
+use Rattle.std.proofs.Common.{◌/◌, ◌≡◌, Bool, inl, inr, true, ℕ}
 use Rattle.bloom_steps.proofs.Common.{Call, Insert, CourseTells, EachStepOf, EndsWithInserts, EndsWithUnions, HasFinishedInsert, IsStepOf, Course, GainsOnce, IsFoundInOther, goes_by_hash, plan_of, turns_none_off}
 use Rattle.bloom_steps.specs.declared.steps.vocabulary.Step.TheVariants as step
 use Rattle.bloom_steps.proofs.RunLemmas.Growing.{Owners, ends}

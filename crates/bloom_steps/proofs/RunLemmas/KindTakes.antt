@@ -1,13 +1,12 @@
 -- Takes in courses of calls of any kind: each finds what is there, and nothing is lost.
 use Rattle.std.proofs.Common.{if◌then◌else◌, ◌+◌, ◌-◌, ◌/◌, ◌<◌, ◌∙◌, ◌≡◌, ◌⊎◌, Bool, None, Some, ap, arith, eq-eqb, false, inl, inr, length, refl, slice_get, subst, suc, sym, true, unwrap_or, zero, ℕ}
-use Rattle.bloom_steps.proofs.Common.{eqb_tells, content, Record, Began, Did, EachStepOf, IsTakenSince, LosesNoPosition, TakesWhatIsThere, Course, adds_or_takes, moment, step_decides}
+use Rattle.bloom_steps.proofs.Common.{some_member, eqb_tells, content, Record, Began, Did, EachStepOf, IsTakenSince, LosesNoPosition, TakesWhatIsThere, Course, adds_or_takes, moment, step_decides}
 use Rattle.bloom_steps.specs.declared.steps.vocabulary.Step.TheVariants as step
 use Rattle.bloom_steps.proofs.RunLemmas.Bounds.{content-end, not_off}
 use Rattle.bloom_steps.proofs.RunLemmas.Changes.{DecidesOnly, TurnsOff, moment-more, or-decides_only}
 use Rattle.bloom_steps.proofs.RunLemmas.KindSteps.{adds-or-takes}
 use Rattle.bloom_steps.proofs.RunLemmas.Kinds.{Kind}
 use Rattle.bloom_steps.proofs.RunLemmas.Scripted.{IsScripted}
-use Rattle.bloom_steps.proofs.StepLemmas.Members.{some_member}
 
 -- a course of calls of a kind
 module _ (kind : Kind) (run : Course) (course : IsScripted kind.Script run) where

@@ -1,9 +1,8 @@
 -- A step among a party's records goes on from its newest beginning.
 use Rattle.std.proofs.Common.{[], ◌++◌, ◌+◌, ◌∙◌, ◌∷◌, ◌≡◌, ◌≤◌, ◌⊎◌, List, Some, ap, append_assoc, arith, drop, inl, inr, length, slice_get, subst, suc, sym, take, ℕ}
-use Rattle.bloom_steps.proofs.Common.{append-nil, slice_get_within, take-append-add, take-append-le, take-append_seam, Call, Record, Began, Did, IsBeginning, IsScript, Taken, CallAfterCall, call_records, did}
+use Rattle.bloom_steps.proofs.Common.{member-seam, split-at, append-nil, slice_get_within, take-append-add, take-append-le, take-append_seam, Call, Record, Began, Did, IsBeginning, IsScript, Taken, CallAfterCall, call_records, did}
 use Rattle.bloom_steps.proofs.RunLemmas.PartyRecords.{did-length, did-same, did-take, did_of-same}
 use Rattle.bloom_steps.proofs.RunLemmas.RecordedCalls.{of_call, which_of}
-use Rattle.bloom_steps.proofs.StepLemmas.Members.{member-seam, split-at}
 
 -- the call that a step goes on with, after these records of its party
 pub record GoesAfter (w k p : ℕ) (xs : List Record) (t : Taken) : Type 0 where

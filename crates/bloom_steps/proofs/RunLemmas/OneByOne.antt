@@ -1,5 +1,5 @@
 -- Calls made one at a time: the records are whole calls, one after the other.
-use Rattle.std.proofs.Common.{[], ◌++◌, ◌<◌, ◌∙◌, ◌∷◌, ◌≡◌, ◌≤◌, List, ap, arith, length, length-append, refl, subst, suc, sym, zero, ℕ}
+use Rattle.std.proofs.Common.{[], ◌++◌, ◌<◌, ◌∙◌, ◌∷◌, ◌≡◌, List, ap, arith, length, length-append, refl, subst, suc, sym, zero, ℕ}
 use Rattle.bloom_steps.proofs.Common.{append-nil, Call, Record, EveryCallEnded, OneAtATime, IsScript, Taken, Cut, MadeCall, cut, CallAfterCall, call_records, did, records_of}
 use Rattle.bloom_steps.proofs.RunLemmas.Fronts.{FirstWhole, ended_later, first_whole, one_later}
 

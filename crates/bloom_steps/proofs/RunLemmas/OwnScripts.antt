@@ -1,12 +1,11 @@
 -- The script that a finished call's own records make, in a lawful course.
-use Rattle.std.proofs.Common.{[], ◌++◌, ◌+◌, ◌-◌, ◌∙◌, ◌∷◌, ◌≡◌, ◌≤◌, Bool, List, Some, add-one, ap, arith, drop, inl, inr, length, refl, slice_get, suc, sym, take, zero, ℕ}
-use Rattle.bloom_steps.proofs.Common.{append-nil, drop-take, none-some, same_Some, Call, End, Record, Began, Did, Step, Other, Zero, MadeBetween, IsFinished, moment, IsBeginning, IsScript, Taken, Course, IsLawful, MayFind, did, records_of}
+use Rattle.std.proofs.Common.{◌++◌, ◌+◌, ◌-◌, ◌∙◌, ◌∷◌, ◌≡◌, ◌≤◌, Bool, List, Some, add-one, ap, arith, drop, inl, inr, length, refl, slice_get, suc, sym, take, ℕ}
+use Rattle.bloom_steps.proofs.Common.{split-at, append-nil, drop-take, Call, End, Record, Began, Did, Step, Other, Zero, MadeBetween, IsFinished, moment, IsBeginning, IsScript, Taken, Course, IsLawful, MayFind, did, records_of}
 use Rattle.bloom_steps.proofs.RunLemmas.LawfulWithin.{lawful-within}
 use Rattle.bloom_steps.proofs.RunLemmas.RunningCalls.{one_end-script}
 use Rattle.bloom_steps.proofs.RunLemmas.PartyRecords.{did-got, own_of_record, records_of-append, records_of-mine}
 use Rattle.bloom_steps.proofs.RunLemmas.CallRecords.{EndsAt, Segment, front_is, segment}
 use Rattle.bloom_steps.proofs.RunLemmas.Scripted.{FindsBits, FoundBits, IsScripted, member-drop}
-use Rattle.bloom_steps.proofs.StepLemmas.Members.{split-at}
 use Rattle.bloom_steps.proofs.StepLemmas.Whole.{beginning_runs, script_some}
 
 -- a finished call of a lawful run of some words and hashes

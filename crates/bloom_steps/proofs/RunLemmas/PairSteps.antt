@@ -1,10 +1,9 @@
 -- What the steps of a union or an intersection make of a set.
 use Rattle.bloom_steps.proofs.StepLemmas.Plans.{TurnsBy, ReadsNoOther, made}
 use Rattle.std.proofs.Common.{[], ◌*◌, ◌++◌, ◌+◌, ◌/◌, ◌<◌, ◌∙◌, ◌∷◌, ◌≡◌, ◌≤◌, Bool, List, None, Some, ap, arith, eq-eqb, false, if◌then◌else◌, inl, inr, length, refl, slice_get, suc, sym, unwrap_or, zero, ℕ}
-use Rattle.bloom_steps.proofs.Common.{eqb_tells, get_or_from_slice_get, none-some, same_Some, slice_get_within, bit_is_on, content, content-past, Step, Other, AreStepsOf, Taken, EachPair, found_in_other, other_words, after_records, step_decides, did}
+use Rattle.bloom_steps.proofs.Common.{some_member, eqb_tells, get_or_from_slice_get, none-some, same_Some, slice_get_within, bit_is_on, content, content-past, Step, Other, AreStepsOf, Taken, EachPair, found_in_other, other_words, after_records, step_decides, did}
 use Rattle.bloom_steps.proofs.RunLemmas.CallSteps.{AllDecide, steps-some}
 use Rattle.bloom_steps.proofs.StepLemmas.Going.{operates, parity, reads}
-use Rattle.bloom_steps.proofs.StepLemmas.Members.{some_member}
 use Rattle.bloom_steps.proofs.StepLemmas.Writing.{content-word}
 
 -- pairs of a load of the other filter's word and a write with what it found, from word j on

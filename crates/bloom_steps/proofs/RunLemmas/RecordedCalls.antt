@@ -1,10 +1,9 @@
 -- Each record is of a call whose script, or a beginning of it, stands among the records.
-use Rattle.bloom_steps.proofs.Common.{append-nil, append_assoc, cases_lt, length-append, plan_of, same_Some, slice_get_within, Call, End, Record, Began, Did, Step, IsBeginning, IsScript, Taken, CallAfterCall, Course, IsLawful, begun_call, call_records, did, last_leaves_running, no_call, party_of, records_of, runs, whole_call}
-use Rattle.std.proofs.Common.{[], ◌++◌, ◌+◌, ◌-◌, ◌<◌, ◌∙◌, ◌∷◌, ◌≡◌, ◌≤◌, ◌⊎◌, List, Some, ap, arith, inl, inr, length, refl, slice_get, subst, suc, sym, true, zero, ℕ}
+use Rattle.bloom_steps.proofs.Common.{member-back, member-front, some_member, append-nil, append_assoc, cases_lt, length-append, plan_of, same_Some, slice_get_within, Call, End, Record, Began, Did, Step, IsBeginning, IsScript, Taken, CallAfterCall, Course, IsLawful, begun_call, call_records, did, last_leaves_running, no_call, party_of, records_of, runs, whole_call}
+use Rattle.std.proofs.Common.{[], ◌++◌, ◌+◌, ◌-◌, ◌<◌, ◌∙◌, ◌≡◌, ◌≤◌, ◌⊎◌, List, Some, ap, arith, inl, inr, length, refl, slice_get, subst, suc, sym, true, ℕ}
 use Rattle.bloom_steps.proofs.RunLemmas.RunningCalls.{newest-call, newest_kept, still_runs-beginning}
 use Rattle.bloom_steps.proofs.RunLemmas.PartyRecords.{did-get, did-length, own_of_record, record_of_own}
 use Rattle.bloom_steps.proofs.RunLemmas.PlacedSteps.{Holds, IsPlacedAt, placed}
-use Rattle.bloom_steps.proofs.StepLemmas.Members.{member-back, member-front, some_member}
 
 -- the call that the record at an index is of, among the records of its party: a whole script, or a
 -- beginning that is the newest call

@@ -1,10 +1,9 @@
 -- Courses whose finished calls made scripts, of whatever kind: what each step found, and the steps
 -- of each finished call.
 use Rattle.std.proofs.Common.{◌+◌, ◌-◌, ◌/◌, ◌<◌, ◌∙◌, ◌≡◌, ◌≤◌, List, Some, ap, arith, drop, inl, inr, length, refl, slice_get, suc, sym, take, zero, ℕ, [], ◌∷◌, Bool}
-use Rattle.bloom_steps.proofs.Common.{eqb_tells, slice_get_within, bit_is_on, Call, End, Running, Did, Step, And, Load, Or, Other, Zero, MadeBetween, Course, BitsTell, IsFinished, moment, AllButLast, Taken}
+use Rattle.bloom_steps.proofs.Common.{member-take, member_of_take, eqb_tells, slice_get_within, bit_is_on, Call, End, Running, Did, Step, And, Load, Or, Other, Zero, MadeBetween, Course, BitsTell, IsFinished, moment, AllButLast, Taken}
 use Rattle.bloom_steps.specs.declared.steps.vocabulary.Step.TheVariants.{Take}
 use Rattle.bloom_steps.proofs.RunLemmas.PartyRecords.{did-get, did-got, own_of_record, record_of_own}
-use Rattle.bloom_steps.proofs.StepLemmas.Members.{member-take, member_of_take}
 
 -- a word that was found has the bits of a set, where its step reads a word of the filter
 abbrev pub FoundBits : (ℕ → Bool) → Step → ℕ → Type 0

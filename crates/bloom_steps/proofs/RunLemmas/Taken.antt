@@ -1,12 +1,11 @@
 -- What was set at the start or since is what was taken or is left.
-use Rattle.std.proofs.Common.{[], ◌+◌, ◌∙◌, ◌∷◌, ◌≡◌, ◌≤◌, List, Some, add-one, ap, arith, inl, length, refl, slice_get, subst, suc, sym, take, true, zero, ℕ}
-use Rattle.bloom_steps.proofs.Common.{take-length, get_or_from_slice_get, sum_by, content, Record, BitsTell, Course, GainsOnce, IsBalanced, LosesNothing, bits_gained, bits_taken, count_below, bits_of}
+use Rattle.std.proofs.Common.{[], ◌+◌, ◌∙◌, ◌∷◌, ◌≡◌, ◌≤◌, List, Some, add-one, ap, arith, inl, length, refl, slice_get, subst, suc, take, true, zero, ℕ}
+use Rattle.bloom_steps.proofs.Common.{some_member, take-length, get_or_from_slice_get, sum_by, content, Record, BitsTell, Course, GainsOnce, IsBalanced, LosesNothing, bits_gained, bits_taken, count_below, bits_of}
 use Rattle.std.proofs.lemmas.List.Sums.{sum_by-cons, sum_by_more}
 use Rattle.bloom_steps.proofs.RunLemmas.Balances.{AddsOrLoads, AddsOrTakes, balances, on_at, takes-nothing}
 use Rattle.bloom_steps.proofs.RunLemmas.Bounds.{content-end}
 use Rattle.bloom_steps.proofs.RunLemmas.Counting.{count_below-part, count_below-same}
 use Rattle.bloom_steps.proofs.RunLemmas.Scripted.{EachStep, FindsBits, StepsWithin}
-use Rattle.bloom_steps.proofs.StepLemmas.Members.{some_member}
 
 -- where no record takes anything, nothing was taken
 none-taken : (rs : List Record)

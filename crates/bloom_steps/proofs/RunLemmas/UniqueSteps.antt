@@ -1,9 +1,8 @@
 -- What a step finds, and how it ends its call, is one.
 use Rattle.std.proofs.Common.{[], ◌%◌, ◌*◌, ◌++◌, ◌+◌, ◌/◌, ◌<◌, ◌^◌, ◌∙◌, ◌∷◌, ◌≡◌, Bool, List, ap, arith, false, inl, inr, length, length-append, nat_eq, refl, suc, sym, true, ℕ}
-use Rattle.bloom_steps.proofs.Common.{both_ways, bit_at, bit_is_on, place, Call, Answer, Step, Other, Zero, LooksAt, Plan, TurnsOn, plan_of, Any, IsLastEnd, IsScript, Taken, Fulfils, nat_tests, IsWordOf, MayFind, word_index}
+use Rattle.bloom_steps.proofs.Common.{member-front, member-seam, member_of_more, both_ways, bit_at, bit_is_on, place, Call, Answer, Step, Other, Zero, LooksAt, Plan, TurnsOn, plan_of, Any, IsLastEnd, IsScript, Taken, Fulfils, nat_tests, IsWordOf, MayFind, word_index}
 use Rattle.std.proofs.lemmas.Nat.Bits.{bit_at-lt, same_from_bits_below}
 use Rattle.bloom_steps.proofs.StepLemmas.Growing.{length-more}
-use Rattle.bloom_steps.proofs.StepLemmas.Members.{member-front, member-seam, member_of_more}
 
 -- digits that are 1 together are the same
 digit-same : (a b : ℕ) → a < 2 → b < 2 → nat_eq a 1 ≡ nat_eq b 1 → a ≡ b

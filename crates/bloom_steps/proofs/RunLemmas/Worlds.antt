@@ -1,9 +1,8 @@
 -- What a run keeps, event by event.
 use Rattle.std.proofs.Common.{[], ◌++◌, ◌<◌, ◌^◌, ◌∙◌, ◌∷◌, ◌≡◌, Bool, List, None, Option, Some, ap, arith, false, inl, inr, length, refl, slice_index, slice_set, subst, sym, take, unwrap_or, ℕ}
-use Rattle.bloom_steps.proofs.Common.{take-append_seam, set-get_or, take-append-le, slice_index_or, bit_is_on, content, Call, End, Record, Began, Did, Step, Other, Zero, Machine, StandsAt, asks, end_of, found_in, words_after_step, after_records, step_decides, word_index, FindsWhatIsThere, IsWordOf, MayFind, records_of, runs, AsksRight, StandsFurther, HasCalled, IsWorld, PartyAt, slot_runs}
+use Rattle.bloom_steps.proofs.Common.{member_of_more, take-append_seam, set-get_or, take-append-le, slice_index_or, bit_is_on, content, Call, End, Record, Began, Did, Step, Other, Zero, Machine, StandsAt, asks, end_of, found_in, words_after_step, after_records, step_decides, word_index, FindsWhatIsThere, IsWordOf, MayFind, records_of, runs, AsksRight, StandsFurther, HasCalled, IsWorld, PartyAt, slot_runs}
 use Rattle.bloom_steps.proofs.RunLemmas.PartyCalls.{parties-more, runs-party, step-party, step-within, whole-party}
 use Rattle.bloom_steps.proofs.StepLemmas.Deciding.{records-more}
-use Rattle.bloom_steps.proofs.StepLemmas.Members.{member_of_more}
 use Rattle.bloom_steps.proofs.StepLemmas.Writing.{content-step, content-word, length-step}
 
 -- records find what is there, also with one more that does

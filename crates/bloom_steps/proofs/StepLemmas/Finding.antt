@@ -1,7 +1,6 @@
 -- What some steps found, and one step more.
 use Rattle.std.proofs.Common.{[], ◌&&◌, ◌*◌, ◌++◌, ◌↔◌, ◌∙◌, ◌∷◌, ◌≡◌, ◌⊎◌, Bool, List, Some, ap, false, inl, inr, length, refl, slice_get, subst, sym, true, ℕ}
-use Rattle.bloom_steps.proofs.Common.{and_right, bit_is_on, place, Answer, TurnsOn, Any, IsLastEnd, Taken}
-use Rattle.bloom_steps.proofs.StepLemmas.Members.{member-front, member-seam, member_of_more}
+use Rattle.bloom_steps.proofs.Common.{member-front, member-seam, member_of_more, and_right, bit_is_on, place, Answer, TurnsOn, Any, IsLastEnd, Taken}
 
 -- what some step has, some of more have
 any_front : (s : List Taken) (t : Taken) (P : ℕ → Taken → Type 0) → Any s P → Any (s ++ t ∷ []) P

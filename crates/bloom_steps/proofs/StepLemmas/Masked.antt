@@ -1,11 +1,10 @@
 -- Masks set in a store, each by one step.
 use Rattle.std.proofs.Common.{[], ◌&&◌, ◌++◌, ◌+◌, ◌/◌, ◌<◌, ◌^◌, ◌∙◌, ◌∷◌, ◌≡◌, ◌≢◌, ◌≤◌, ◌↔◌, Bool, List, Some, ap, arith, false, inl, inr, length, refl, slice_get, slice_index, subst, sym, true, ℕ}
 use Rattle.std.proofs.Math.Bool.{and-true}
-use Rattle.bloom_steps.proofs.Common.{both_ways, cases_lt, none-some, slice_get_within, bit_is_on, content, bit_is_on-zero, End, Answer, Running, Step, Or, DrivesByWords, HasAll, Lacks, SetsItsPart, SetsMask, AllButLast, Any, Each, Last, Linked, Taken, word_index}
+use Rattle.bloom_steps.proofs.Common.{member-front, member-seam, member_of_more, both_ways, cases_lt, none-some, slice_get_within, bit_is_on, content, bit_is_on-zero, End, Answer, Running, Step, Or, DrivesByWords, HasAll, Lacks, SetsItsPart, SetsMask, AllButLast, Any, Each, Last, Linked, Taken, word_index}
 use Rattle.bloom_steps.proofs.StepLemmas.Driving.{linked-more, made}
 use Rattle.bloom_steps.proofs.StepLemmas.Finding.{none-more}
 use Rattle.bloom_steps.proofs.StepLemmas.Growing.{but_last-more, each-more, last_step-more}
-use Rattle.bloom_steps.proofs.StepLemmas.Members.{member-front, member-seam, member_of_more}
 use Rattle.bloom_steps.proofs.StepLemmas.Writing.{content-word}
 use Rattle.bloom_steps.proofs.StepLemmas.MaskSteps.{its-part, its-reply}
 

@@ -1,6 +1,6 @@
 -- Members of a list by their index.
 use Rattle.std.proofs.Common.{[], ◌++◌, ◌+◌, ◌<◌, ◌∙◌, ◌∷◌, ◌≡◌, ◌⊎◌, List, Some, add-one, ap, arith, drop, inl, inr, length, refl, slice_get, suc, sym, take, zero, ℕ}
-use Rattle.bloom_steps.proofs.Common.{none-some, same_Some}
+use Rattle.std.proofs.lemmas.Option.{none-some, same_Some}
 
 -- a member of one more at the end is an earlier one or the last
 pub member_of_more : {X : Type 0} (s : List X) (x y : X) (i : ℕ)

@@ -1,7 +1,6 @@
 -- What the steps of a plan decide.
 use Rattle.std.proofs.Common.{◌/◌, ◌≡◌, ◌∙◌, ◌⊎◌, [], Bool, ap, inl, inr, None, Option, Some, false, if◌then◌else◌, nat_eq, not, ◌&&◌, refl, true, ℕ}
-use Rattle.bloom_steps.proofs.Common.{both_ways, bit_is_on, Call, Clear, Contains, Insert, Intersect, Union, Step, And, Or, EachPair, EachWord, LooksAt, Plan, TurnsOn, goes_by_hash, plan_of, turns_none_off, found_in_other, step_decides}
-use Rattle.bloom_steps.specs.declared.steps.vocabulary.Call.TheVariants.{Take}
+use Rattle.bloom_steps.proofs.Common.{both_ways, bit_is_on, Call, Contains, Insert, Intersect, Union, Step, And, Or, EachPair, EachWord, LooksAt, Plan, TurnsOn, goes_by_hash, plan_of, turns_none_off, found_in_other, step_decides}
 
 -- what a step that sets bits, or else clears them, makes of a bit of the word that it was given
 abbrev pub made : Bool → Bool → Option Bool
