@@ -18,7 +18,6 @@ pub mod Growing
 pub mod Grows
 pub mod Happens
 pub mod InsertSteps
-pub mod Lawful
 pub mod LawfulWithin
 pub mod KindEnds
 pub mod KindSteps

@@ -145,13 +145,15 @@ module _ (parties k : ℕ) (words : List ℕ) (schedule : List Event) (one other
       let count = lawful.count ∙ ap length begins-same ∙ sym lawful2.count in
       (equal_words one.words other.words lawful.fit lawful2.fit count).1 bits-same
 
+  -- so both are the same
+  both-same : EqualWordsLaw → one ≡ other
+  both-same equal_words =
+      ap (λ l. record { start = l; records = one.records; words = one.words }) begins-same
+      ∙ ap (λ l. record { start = other.start; records = l; words = one.words }) records-same
+      ∙ ap (λ l. record { start = other.start; records = other.records; words = l })
+      (words-same equal_words)
+
 -- at most one course is lawful and follows a schedule
 pub at_most_one : EqualWordsLaw → AtMostOne
 at_most_one equal_words parties k words schedule one other lawful follows lawful2 follows2 =
-    let begins = begins-same parties k words schedule one other lawful lawful2 follows follows2 in
-    let records = records-same parties k words schedule one other lawful lawful2 follows follows2 in
-    let last =
-    words-same parties k words schedule one other lawful lawful2 follows follows2 equal_words in
-    ap (λ l. record { start = l; records = one.records; words = one.words }) begins
-    ∙ ap (λ l. record { start = other.start; records = l; words = one.words }) records
-    ∙ ap (λ l. record { start = other.start; records = other.records; words = l }) last
+    both-same parties k words schedule one other lawful lawful2 follows follows2 equal_words

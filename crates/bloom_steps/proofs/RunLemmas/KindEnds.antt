@@ -1,6 +1,6 @@
 -- What every interleaving of calls of any kind gives, and with it how growing courses end.
-use Rattle.std.proofs.Common.{◌/◌, ◌≡◌, Bool, inl, inr, true, ℕ}
-use Rattle.bloom_steps.proofs.Common.{Call, Insert, CourseTells, EachStepOf, EndsWithInserts, EndsWithUnions, HasFinishedInsert, IsStepOf, Course, GainsOnce, IsFoundInOther, goes_by_hash, plan_of, turns_none_off}
+use Rattle.std.proofs.Common.{◌/◌, ◌≡◌, Bool, inl, inr, true, ℕ, ◌↔◌, ◌⊎◌}
+use Rattle.bloom_steps.proofs.Common.{content, Call, Insert, CourseTells, EachStepOf, EndsWithInserts, HasFinishedInsert, Course, GainsOnce, IsFoundInOther, goes_by_hash, plan_of, turns_none_off}
 use Rattle.bloom_steps.specs.declared.steps.vocabulary.Step.TheVariants as step
 use Rattle.bloom_steps.proofs.RunLemmas.Growing.{Owners, ends}
 use Rattle.bloom_steps.proofs.RunLemmas.KindSteps.{Finished, adds-or-loads, adds-or-takes, in-script}
@@ -10,36 +10,25 @@ use Rattle.bloom_steps.proofs.RunLemmas.Scripted.{IsScripted, record-of}
 use Rattle.bloom_steps.proofs.RunLemmas.Taken.{gains_once, loses_nothing}
 use Rattle.bloom_steps.proofs.StepLemmas.Plans.{hash-grows}
 
--- a call that passes one test passes another
-passed : {test other : Call → Bool} {run : Course} {m party : ℕ} (of : IsStepOf test run m party)
-    → other of.call ≡ true → IsStepOf other run m party
-passed of passes = record {
-  call = of.call;
-  passes = passes;
-  began = of.began;
-  last = of.last;
-  ended = of.ended;
-  finished = of.finished;
-  later = of.later;
-  upto = of.upto;
-}
-
 -- a course of calls of a kind
 module _ (kind : Kind) (run : Course) (course : IsScripted kind.Script run) where
-  -- each step is one of a finished call that clears nothing
-  owners : EachStepOf (λ call. turns_none_off (plan_of call)) run
-      → Owners kind run (Finished kind run course)
-  owners each = record {
-    is = λ party call s (began, last, ended, fin, is, own). is;
-    members = λ party call s (began, last, ended, fin, is, own) i t g.
-        let at = record-of run party began last s own i t g in (at.m, at.is);
-    each = in-script kind run course each;
-  }
-
-  -- in the end just the start, the inserts and what unions found are there
-  ends-with-unions : EndsWithUnions kind.Positions run
-  ends-with-unions each =
-      ends kind run course.bits (Finished kind run course) (owners each) (HasFinishedInsert kind.Positions run)
+  -- where each step is one of a finished call that clears nothing, just the start, the inserts and
+  -- what unions found are there in the end
+  ends-in : {test : Call → Bool} → EachStepOf test run
+      → ((call : Call) → test call ≡ true → turns_none_off (plan_of call) ≡ true)
+      → (p : ℕ) → (content run.words p ≡ true) ↔ ((content run.start p ≡ true)
+      ⊎ (HasFinishedInsert kind.Positions run p ⊎ IsFoundInOther run p))
+  ends-in each grows =
+      let owners : Owners kind run (Finished kind run course) = record {
+        is = λ party call s (began, last, ended, fin, is, own). is;
+        members = λ party call s (began, last, ended, fin, is, own) i t g.
+            let at = record-of run party began last s own i t g in (at.m, at.is);
+        each = λ m party t g.
+            let (call, s, of, passes, at) = in-script kind run course each m party t g in
+            (call, s, of, grows call passes, at);
+      } in
+      ends kind run course.bits (Finished kind run course) owners
+      (HasFinishedInsert kind.Positions run)
       (λ p (party, hash, s, (began, last, ended, fin, is, own), position). record {
         party = party;
         hash = hash;
@@ -67,8 +56,7 @@ module _ (kind : Kind) (run : Course) (course : IsScripted kind.Script run) wher
   -- in the end just the start and the inserts are there
   ends-with-inserts : EndsWithInserts kind.Positions run
   ends-with-inserts each p =
-      let all = ends-with-unions (λ m party ended at.
-      let of = each m party ended at in passed of (hash-grows (plan_of of.call) of.passes)) p in (
+      let all = ends-in each (λ call. hash-grows (plan_of call)) p in (
         (λ on. elim (all.0 on) [
           | inl before ↦ inl before
           | inr y ↦ elim y [ inl i ↦ inr i | inr o ↦ absurd (none-found each p o) ]
@@ -90,7 +78,7 @@ module _ (kind : Kind) (run : Course) (course : IsScripted kind.Script run) wher
     found = found kind run course;
     contains = contains kind run course;
     grows = ends-with-inserts;
-    unites = ends-with-unions;
+    unites = λ each. ends-in each (λ call passes. passes);
     gained = gains-each-once;
     kept = loses-no-position kind run course;
     balanced = λ each.
