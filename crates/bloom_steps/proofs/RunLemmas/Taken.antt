@@ -53,7 +53,8 @@ module _ (run : Course) (bits : BitsTell run) (finds : FindsBits run) (within : 
     pub gains_once : EachStep AddsOrLoads run
         → ((p : ℕ) → content run.start p ≡ true → content run.words p ≡ true) → GainsOnce run
     gains_once each stays =
-        let kept = loses_nothing (λ m party did found ended g. inl (each m party did found ended g)) in
+        let kept =
+        loses_nothing (λ m party did found ended g. inl (each m party did found ended g)) in
         let nothing = none-taken run.records (takes-nothing run each) in
         let parts =
         count_below-part (bits_of run) (content run.start) (content run.words) stays in
