@@ -56,7 +56,7 @@ module _ (kind : Kind) (run : Course) (course : IsScripted kind.Script run) wher
       (λ hash is. inl ((kind.inserts hash s is).masks i t got))
       (λ hash is. inr (_, (kind.look_ups hash s is).steps i t got)) call passes is
 
-  -- besides takes take words
+  -- inserts, look-ups and takes set bits, load words or take them
   pub adds-or-takes : EachStepOf adds_or_takes run → EachStep AddsOrTakes run
   adds-or-takes each m party did found ended g =
       let t = made did found ended in

@@ -5,8 +5,8 @@ use Rattle.bloom_steps.proofs.RunLemmas.RunningCalls.{newest-call, newest_kept, 
 use Rattle.bloom_steps.proofs.RunLemmas.PartyRecords.{did-get, did-length, own_of_record, record_of_own}
 use Rattle.bloom_steps.proofs.RunLemmas.PlacedSteps.{Holds, IsPlacedAt, placed}
 
--- the call that the record at an index is of, among the records of its party: a whole script, or a
--- beginning that is the newest call
+-- the call of the record at an index, among the records of its party, with the record's place in it;
+-- where the call is only begun it is the newest
 pub record OfCall (w k p : ℕ) (rs : List Record) (i : ℕ) : Type 0 where
   pub earlier : List Record
   pub call : Call
@@ -18,7 +18,7 @@ pub record OfCall (w k p : ℕ) (rs : List Record) (i : ℕ) : Type 0 where
   pub at : i ≡ length earlier + j
   pub within : j ≤ length s
 
--- each record of a party is of a call
+-- each record of a party is one of a call
 pub of_call : (w k p : ℕ) (rs : List Record) (i : ℕ) → CallAfterCall w k p rs → i < length rs
     → OfCall w k p rs i
 of_call w k p _ i no_call below = absurd (omega (arith, below))
@@ -68,7 +68,7 @@ of_call w k p _ i (whole_call call s later is more) below =
       }
     ]
 
--- it is the call's beginning, or one of its steps
+-- a record is the beginning of its call, or one of its steps
 pub which_of : (w k p : ℕ) (rs : List Record) (i : ℕ) (r : Record) (of : OfCall w k p rs i)
     → slice_get rs i ≡ Some r
     → ((of.j ≡ 0) × (r ≡ Began p of.call)) ⊎ ((j : ℕ) × (t : Taken) × (of.j ≡ suc j)
