@@ -17,6 +17,7 @@ pub use Rattle.bloom_parts.specs.Made.{FoundByAnd, FoundByLoad, FoundByOr, Found
 pub use Rattle.bloom_parts.specs.Deciders.{Decider, decides_nothing, last_decision, state}
 pub use Rattle.bloom_parts.proofs.PublishedLemmas.{are_in-off, bit_is_on-and, bit_is_on-or, bit_is_on-zero, content-past, count-push, place-position, position-from, position-to, state-append}
 unfoldable pub use Rattle.bloom_parts.specs.Counts.{count_on}
+pub use Rattle.bloom_steps.proofs.StepLemmas.Members.{member-back, member-front, member-seam, member-take, member_of_more, member_of_take, some_member, split-at, take-more}
 pub use Rattle.bloom_steps.specs.Vocabulary.{And, Answer, Began, Begin, Call, Clear, Contains, Did, Done, End, Event, Go, Insert, Intersect, Load, Or, Other, Record, Running, Step, Union, Zero}
 pub use Rattle.bloom_steps.specs.Scripts.{AllButLast, AllFoundOn, Any, AreStepsOf, Drives, DrivesPlan, Each, Fulfils, HasCount, IsBeginning, IsLastEnd, IsNext, IsScript, Last, Linked, StopsRight, Taken, answer_of, answer_of_end, last_found, step_at}
 pub use Rattle.bloom_steps.specs.Courses.{AtMostOne, CallAfterCall, Course, FindsWhatIsThere, Follows, FollowsFrom, Gives, IsLawful, IsWordOf, MayFind, TakesStep, begun_call, call_records, did, last_leaves_running, leaves_running, next_event, no_call, no_event, party_of, runs, whole_call}

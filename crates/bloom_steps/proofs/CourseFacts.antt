@@ -1,5 +1,4 @@
 pub mod CarriedOut
-pub mod Carrying
 pub mod Commands
 pub mod Courses
 pub mod Endings

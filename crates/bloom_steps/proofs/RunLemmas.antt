@@ -11,7 +11,6 @@ pub mod Commands
 pub mod CopySteps
 pub mod Counting
 pub mod CourseLaws
-pub mod Events
 pub mod Follows
 pub mod Fronts
 pub mod Gained
@@ -19,9 +18,7 @@ pub mod Growing
 pub mod Grows
 pub mod Happens
 pub mod InsertSteps
-pub mod Lawful
 pub mod LawfulWithin
-pub mod KindCounts
 pub mod KindEnds
 pub mod KindSteps
 pub mod KindTakes
@@ -40,7 +37,6 @@ pub mod Positions
 pub mod RecordedCalls
 pub mod RunningCalls
 pub mod Scripted
-pub mod Slots
 pub mod Taken
 pub mod Told
 pub mod UniqueSteps

@@ -4,7 +4,7 @@ use Rattle.std.proofs.Common.{◌∷◌, [], arith, false, lit<, refl, true}
 use Rattle.bloom_steps.proofs.Common.{IsPosition, are_in, Answer, Did, Or, CarriedOut, IsCourseOf, CourseTells, LawfulTells, IsScript}
 use Rattle.bloom_steps.proofs.CourseFacts.Courses.{twins, twins_answering}
 use Rattle.bloom_steps.proofs.CourseFacts.Inserts.{inserts_tell}
-use Rattle.bloom_steps.proofs.CourseFacts.Lawful.{lawful-twins}
+use Rattle.bloom_steps.proofs.CourseFacts.Lawful.{lawful-twins, twins-carried}
 use Rattle.bloom_steps.proofs.RunLemmas.OwnScripts.{own_script}
 use Rattle.bloom_steps.proofs.RunLemmas.CourseLaws.{course_law}
 use Rattle.bloom_steps.proofs.RunLemmas.PlainCalls.{plain_course_law}
@@ -15,14 +15,6 @@ carried : CarriedOut (4 ∷ []) (Did 0 (Or 0 1) 4 (Answer false) ∷ []) (5 ∷ 
 carried = (
   (lit< tt, (0, refl), refl),
   (λ (within, (given, finds), after). omega (arith, finds)),
-)
-
--- the twins were carried out
-twins-carried : CarriedOut twins.start twins.records twins.words
-twins-carried = (
-  lit< tt,
-  (0, refl),
-  (lit< tt, (0, refl), (lit< tt, (0, refl), (lit< tt, (0, refl), refl))),
 )
 
 -- the twins are a course, and where the first answers true they are none

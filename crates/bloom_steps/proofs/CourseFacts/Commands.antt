@@ -25,6 +25,6 @@ another-answer acts = let answer = acts.answers 1 _ refl in cc
 acts : ActsAsCommands 1 in_turn
     × (ActsAsCommands 1 (in_turn_answering false) → ⊥)
 acts = (
-  acts_as_commands 1 in_turn lawful-in_turn (omega arith) (omega arith),
+  acts_as_commands 1 in_turn lawful-in_turn (omega arith),
   (λ act. another-answer (act (one-in_turn false) (ended-in_turn false))),
 )

@@ -1,14 +1,38 @@
 -- Worked courses that are lawful.
-use Rattle.std.proofs.Common.{◌≡◌, ◌∷◌, [], List, ℕ, zero, suc, true, false, refl, arith, sym, subst, lit<, ◌<◌, ◌^◌, ◌∙◌}
+use Rattle.std.proofs.Common.{◌≡◌, ◌∷◌, [], Bool, List, ℕ, zero, suc, true, false, refl, arith, sym, subst, length, lit<, ltb, ◌<◌, ◌^◌, ◌∙◌}
 use Rattle.std.proofs.lemmas.List.Elements.{All-cons, All-nil}
-use Rattle.bloom_steps.proofs.Common.{chain, AreWords, bit_is_on, content, place, Load, Or, Other, Insert, Contains, Union, Began, Did, Running, Answer, Any, Taken, IsScript, CallAfterCall, IsLawful, no_call, begun_call, whole_call, records_of}
-use Rattle.bloom_steps.proofs.StepFacts.Members.{each-member, one-step, took}
+use Rattle.bloom_steps.proofs.Common.{ltb-true, chain, AreWords, bit_is_on, content, CarriedOut, Course, Record, moment, place, Load, Or, Other, Insert, Contains, Union, Began, Did, Running, Answer, Any, Taken, IsScript, CallAfterCall, IsLawful, no_call, begun_call, whole_call, records_of}
+use Rattle.bloom_steps.proofs.RunLemmas.CarriedOut.{carried-bits, carried-step}
+use Rattle.bloom_steps.proofs.RunLemmas.Worlds.{may_find-read}
+use Rattle.bloom_steps.proofs.StepFacts.Members.{all_pass, each-member, each-passes, one-step, took}
 use Rattle.bloom_steps.proofs.StepFacts.Pairs.{read_write, read_write-script}
 use Rattle.bloom_steps.proofs.StepFacts.Scripts.{insert, is_script}
-use Rattle.bloom_steps.proofs.CourseFacts.Carrying.{carried}
 use Rattle.bloom_steps.proofs.CourseFacts.Courses.{twins, in_turn, insert_then_contains}
 use Rattle.bloom_steps.proofs.CourseFacts.Parties.{none-past}
 use Rattle.bloom_steps.proofs.StepLemmas.Finding.{ends-off}
+
+-- whether the word that a step found has 64 bits
+abbrev found_fits : Record → Bool
+found_fits (Began party call) = true
+found_fits (Did party step found ended) = ltb found (2 ^ 64)
+
+-- a course whose steps are carried out on its words, call after call, is lawful
+pub carried : (k : ℕ) (run : Course) → CarriedOut run.start run.records run.words
+    → all_pass (λ i r. found_fits r) run.records ≡ true → length run.words ≡ length run.start
+    → AreWords run.words
+    → ((party : ℕ) → CallAfterCall (length run.start) k party (records_of party run.records))
+    → IsLawful k run
+carried k run made fits count words calls = record {
+  finds = λ m party step found ended g.
+      let is = carried-step run.start run.records run.words made m party step found ended g in
+      let small = each-passes (λ i r. found_fits r) run.records fits m _ g in
+      may_find-read (moment run m) is.now is.given found step is.bits is.finds
+      (ltb-true found (2 ^ 64) small);
+  calls = calls;
+  count = count;
+  bits = λ p. carried-bits run.start run.records run.words p made;
+  fit = words;
+}
 
 -- one word of 64 bits
 pub one-word : (word : ℕ) → word < 2 ^ 64 → AreWords (word ∷ [])
@@ -54,7 +78,7 @@ calls (suc (suc party)) =
 pub lawful-insert_then_contains : IsLawful 1 insert_then_contains
 lawful-insert_then_contains =
     carried 1 insert_then_contains
-    (omega arith, refl, lit< tt, (omega arith, refl, lit< tt, (omega arith, refl, lit< tt, tt)))
+    (lit< tt, (0, refl), (lit< tt, (0, refl), (lit< tt, (9, refl), refl)))
     refl refl (one-word 5 (lit< tt)) calls
 
 -- the steps of the first of the twins
@@ -83,21 +107,17 @@ calls-twins (suc (suc party)) =
     subst (CallAfterCall 1 2 (suc (suc party)))
     (sym (none-past 2 (suc (suc party)) twins.records 6 refl (omega arith))) no_call
 
+-- the twins were carried out
+pub twins-carried : CarriedOut twins.start twins.records twins.words
+twins-carried = (
+  lit< tt,
+  (0, refl),
+  (lit< tt, (0, refl), (lit< tt, (0, refl), (lit< tt, (0, refl), refl))),
+)
+
 -- two inserts of one fresh hash are lawful
 pub lawful-twins : IsLawful 2 twins
-lawful-twins =
-    carried 2 twins (
-      omega arith,
-      refl,
-      lit< tt,
-      (
-        omega arith,
-        refl,
-        lit< tt,
-        (omega arith, refl, lit< tt, (omega arith, refl, lit< tt, tt)),
-      ),
-    )
-    refl refl (one-word 1048577 (lit< tt)) calls-twins
+lawful-twins = carried 2 twins twins-carried refl refl (one-word 1048577 (lit< tt)) calls-twins
 
 -- an insert of one step, which found its bit set
 abbrev known : List Taken
@@ -126,8 +146,7 @@ calls-in_turn (suc (suc party)) =
 -- a union, and then an insert, are lawful
 pub lawful-in_turn : IsLawful 1 in_turn
 lawful-in_turn =
-    carried 1 in_turn
-    (omega arith, refl, lit< tt, (omega arith, refl, lit< tt, (omega arith, refl, lit< tt, tt)))
+    carried 1 in_turn (lit< tt, (5, refl), (lit< tt, (0, refl), (lit< tt, (0, refl), refl)))
     refl refl (one-word 5 (lit< tt)) calls-in_turn
 
 -- an insert and a look-up are lawful, and not where the look-up loads the word as it was before

@@ -3,9 +3,8 @@ use Rattle.bloom_steps.proofs.Common.{sum_by, chain, content, Or, Insert, Runnin
 use Rattle.std.proofs.Common.{◌≡◌, ◌∷◌, [], List, ℕ, zero, suc, false, refl, arith, sym, subst, lit<}
 use Rattle.bloom_steps.specs.declared.steps.vocabulary.Step.TheVariants as step
 use Rattle.bloom_steps.specs.declared.steps.vocabulary.Call.TheVariants.{Take}
-use Rattle.bloom_steps.proofs.CourseFacts.Carrying.{carried}
 use Rattle.bloom_steps.proofs.CourseFacts.Finished.{every-call}
-use Rattle.bloom_steps.proofs.CourseFacts.Lawful.{one-word}
+use Rattle.bloom_steps.proofs.CourseFacts.Lawful.{carried, one-word}
 use Rattle.bloom_steps.proofs.CourseFacts.Parties.{none-past}
 use Rattle.bloom_steps.proofs.RunLemmas.Gained.{takes_lose_nothing}
 use Rattle.bloom_steps.proofs.StepFacts.Members.{each-member, one-step, took}
@@ -65,8 +64,7 @@ calls (suc (suc party)) =
 -- the course is lawful: the take finds the first bit and leaves the second
 lawful-between : IsLawful 2 (between 1)
 lawful-between =
-    carried 2 (between 1)
-    (omega arith, refl, lit< tt, (omega arith, refl, lit< tt, (omega arith, refl, lit< tt, tt)))
+    carried 2 (between 1) (lit< tt, (0, refl), (lit< tt, (0, refl), (lit< tt, (0, refl), refl)))
     refl refl (one-word 1048576 (lit< tt)) calls
 
 -- the numbers where the take doesn't tell the bit that it cleared: 0 + 2 against 0 + 1

@@ -2,8 +2,7 @@
 use Rattle.std.proofs.Common.{◌≡◌, ◌∷◌, [], List, ℕ, zero, suc, refl, arith, lit<, sym, subst}
 use Rattle.bloom_steps.proofs.Common.{Zero, Clear, Done, IsScript, Taken, AtMostOne, CallAfterCall, Course, Follows, IsLawful, no_call, records_of, whole_call}
 use Rattle.bloom_steps.proofs.StepFacts.Members.{one-step, took}
-use Rattle.bloom_steps.proofs.CourseFacts.Carrying.{carried}
-use Rattle.bloom_steps.proofs.CourseFacts.Lawful.{one-word}
+use Rattle.bloom_steps.proofs.CourseFacts.Lawful.{carried, one-word}
 use Rattle.bloom_steps.proofs.CourseFacts.Parties.{none-past}
 use Rattle.bloom_steps.proofs.CourseFacts.Schedules.{cleared, follows, schedule}
 
@@ -26,8 +25,7 @@ calls (suc party) =
 -- the course that follows the schedule is lawful
 lawful : IsLawful 1 (cleared (9 ∷ []))
 lawful =
-    carried 1 (cleared (9 ∷ [])) (omega arith, refl, lit< tt, tt) refl refl
-    (one-word 0 (lit< tt)) calls
+    carried 1 (cleared (9 ∷ [])) (lit< tt, (0, refl), refl) refl refl (one-word 0 (lit< tt)) calls
 
 -- the course that follows the schedule is the only lawful one
 only : AtMostOne → (other : Course) → IsLawful 1 other → Follows 1 (9 ∷ []) schedule other

@@ -1,11 +1,10 @@
 -- At most one course is lawful and follows a schedule.
 use Rattle.std.proofs.Common.{[], ◌++◌, ◌∙◌, ◌∷◌, ◌≡◌, Bool, List, ap, append_assoc, inl, inr, length, refl, subst, sym, ℕ}
-use Rattle.bloom_steps.proofs.Common.{take-append_seam, both_ways, EqualWordsLaw, content, Event, Begin, Go, Record, Did, Other, IsScript, Taken, after_records, AtMostOne, CallAfterCall, Course, FindsWhatIsThere, Follows, FollowsFrom, IsLawful, Gives, TakesStep, MayFind, next_event, no_event, records_of, runs}
+use Rattle.bloom_steps.proofs.Common.{member-seam, take-append_seam, both_ways, EqualWordsLaw, content, Event, Begin, Go, Record, Did, Other, IsScript, Taken, after_records, AtMostOne, CallAfterCall, Course, FindsWhatIsThere, Follows, FollowsFrom, IsLawful, Gives, TakesStep, MayFind, next_event, no_event, records_of, runs}
 use Rattle.bloom_steps.proofs.RunLemmas.NextSteps.{GoesAfter, goes_after, newest-same}
 use Rattle.bloom_steps.proofs.RunLemmas.PartyRecords.{records_of-append, records_of-mine}
 use Rattle.bloom_steps.proofs.RunLemmas.UniqueSteps.{end-same, found-same}
 use Rattle.bloom_steps.proofs.StepLemmas.Going.{script_next}
-use Rattle.bloom_steps.proofs.StepLemmas.Members.{member-seam}
 
 -- the next record of a party's call is one
 next-same : (w k p given : ℕ) (A : ℕ → Bool) (xs : List Record) (t u : Taken) → GoesAfter w k p xs t
@@ -146,13 +145,15 @@ module _ (parties k : ℕ) (words : List ℕ) (schedule : List Event) (one other
       let count = lawful.count ∙ ap length begins-same ∙ sym lawful2.count in
       (equal_words one.words other.words lawful.fit lawful2.fit count).1 bits-same
 
+  -- so both are the same
+  both-same : EqualWordsLaw → one ≡ other
+  both-same equal_words =
+      ap (λ l. record { start = l; records = one.records; words = one.words }) begins-same
+      ∙ ap (λ l. record { start = other.start; records = l; words = one.words }) records-same
+      ∙ ap (λ l. record { start = other.start; records = other.records; words = l })
+      (words-same equal_words)
+
 -- at most one course is lawful and follows a schedule
 pub at_most_one : EqualWordsLaw → AtMostOne
 at_most_one equal_words parties k words schedule one other lawful follows lawful2 follows2 =
-    let begins = begins-same parties k words schedule one other lawful lawful2 follows follows2 in
-    let records = records-same parties k words schedule one other lawful lawful2 follows follows2 in
-    let last =
-    words-same parties k words schedule one other lawful lawful2 follows follows2 equal_words in
-    ap (λ l. record { start = l; records = one.records; words = one.words }) begins
-    ∙ ap (λ l. record { start = other.start; records = l; words = one.words }) records
-    ∙ ap (λ l. record { start = other.start; records = other.records; words = l }) last
+    both-same parties k words schedule one other lawful lawful2 follows follows2 equal_words

@@ -1,11 +1,11 @@
 -- Each record of an insert, a look-up or a take changes the number of set positions by what it sets
 -- or takes.
 use Rattle.std.proofs.Common.{◌&&◌, ◌+◌, ◌/◌, ◌<◌, ◌∙◌, ◌≡◌, ◌⊎◌, Bool, None, Some, ap, arith, eq-eqb, false, if◌then◌else◌, inl, inr, nat_eq, not, refl, slice_get, subst, sym, true, unwrap_or, ℕ, length}
-use Rattle.bloom_steps.proofs.Common.{ne_eqb, bit_is_on, End, Record, Did, Step, Load, Or, Course, bits_gained, bits_new, bits_on, bits_taken, count_below, bits_of, moment, step_decides}
+use Rattle.bloom_steps.proofs.Common.{ne_eqb, bit_is_on, End, Record, Began, Did, Step, Load, Or, Course, bits_gained, bits_new, bits_on, bits_taken, count_below, bits_of, moment, step_decides}
 use Rattle.bloom_steps.specs.declared.steps.vocabulary.Step.TheVariants as step
 use Rattle.bloom_steps.proofs.RunLemmas.Changes.{moment-more}
 use Rattle.bloom_steps.proofs.RunLemmas.Counting.{count_below-gained, count_below-same, count_below-word}
-use Rattle.bloom_steps.proofs.RunLemmas.Scripted.{FindsBits, StepsWithin}
+use Rattle.bloom_steps.proofs.RunLemmas.Scripted.{EachStep, FindsBits, StepsWithin}
 
 -- how many positions are set at moment m
 abbrev pub on_at : Course → ℕ → ℕ
@@ -24,10 +24,11 @@ AddsOrLoads did =
 abbrev pub AddsOrTakes : Step → Type 0
 AddsOrTakes did = AddsOrLoads did ⊎ ((i : ℕ) × (did ≡ step.Take i))
 
--- a step that sets bits or loads a word takes nothing
-pub takes-nothing : (party : ℕ) (did : Step) (found : ℕ) (ended : End) → AddsOrLoads did
-    → bits_taken (Did party did found ended) ≡ 0
-takes-nothing party did found ended kind = elim kind [
+-- where each step sets bits or loads a word, no record takes anything
+pub takes-nothing : (run : Course) → EachStep AddsOrLoads run → (m : ℕ) (r : Record)
+    → slice_get run.records m ≡ Some r → bits_taken r ≡ 0
+takes-nothing run each m (Began party call) g = refl
+takes-nothing run each m (Did party did found ended) g = elim (each m party did found ended g) [
   | inl (i, mask, is) ↦ ap (λ x. bits_taken (Did party x found ended)) is
   | inr (i, is) ↦ ap (λ x. bits_taken (Did party x found ended)) is
 ]
@@ -35,7 +36,7 @@ takes-nothing party did found ended kind = elim kind [
 -- a course in which each step finds what is there
 module _ (run : Course) (finds : FindsBits run) where
   -- a record that sets nothing, takes nothing and leaves the set
-  pub stays : (m : ℕ) (r : Record) → bits_gained r ≡ 0 → bits_taken r ≡ 0
+  stays : (m : ℕ) (r : Record) → bits_gained r ≡ 0 → bits_taken r ≡ 0
       → ((q : ℕ) → moment run (m + 1) q ≡ moment run m q) → Balances run m r
   stays m r none nothing same =
       let e : on_at run (m + 1) ≡ on_at run m =
@@ -50,7 +51,7 @@ module _ (run : Course) (finds : FindsBits run) where
     after did g q = moment-more run m (Did party did found ended) q g
 
     -- a step that sets bits of a mask
-    pub sets : (mask : ℕ) → slice_get run.records m ≡ Some (Did party (Or i mask) found ended)
+    sets : (mask : ℕ) → slice_get run.records m ≡ Some (Did party (Or i mask) found ended)
         → Balances run m (Did party (Or i mask) found ended)
     sets mask g =
         let more : on_at run (m + 1) ≡ on_at run m + bits_new mask found =
@@ -86,7 +87,7 @@ module _ (run : Course) (finds : FindsBits run) where
         gains false was = never was
 
     -- the step of a take
-    pub takes : slice_get run.records m ≡ Some (Did party (step.Take i) found ended)
+    takes : slice_get run.records m ≡ Some (Did party (step.Take i) found ended)
         → Balances run m (Did party (step.Take i) found ended)
     takes g =
         let less : on_at run m ≡ bits_on found + on_at run (m + 1) =
@@ -103,11 +104,12 @@ module _ (run : Course) (finds : FindsBits run) where
             ≡ unwrap_or (if b then Some false else None) (moment run m q)
         decided q = ap (λ b. unwrap_or (if b then Some false else None) (moment run m q))
 
-  -- a step of an insert, a look-up or a take
-  pub adds : StepsWithin run → (m party : ℕ) (did : Step) (found : ℕ) (ended : End)
-      → slice_get run.records m ≡ Some (Did party did found ended) → AddsOrTakes did
-      → Balances run m (Did party did found ended)
-  adds within m party did found ended g kind = elim kind [
+  -- where each step sets bits, loads a word or takes one, each record balances
+  pub balances : StepsWithin run → EachStep AddsOrTakes run → (m : ℕ) (r : Record)
+      → slice_get run.records m ≡ Some r → Balances run m r
+  balances within each m (Began party call) g =
+      stays m (Began party call) refl refl (λ q. moment-more run m (Began party call) q g)
+  balances within each m (Did party did found ended) g = elim (each m party did found ended g) [
     | inl either ↦ elim either [
       | inl (i, mask, is) ↦
           subst (λ x. Balances run m (Did party x found ended)) (sym is)

@@ -1,12 +1,12 @@
 -- What no step clears stays set, and past the words nothing is ever set.
 use Rattle.bloom_steps.proofs.StepLemmas.Plans.{made, plan_decides, PlanDecides}
 use Rattle.std.proofs.Common.{◌%◌, ◌*◌, ◌-◌, ◌/◌, ◌<◌, ◌^◌, ◌∙◌, ◌≡◌, ◌≤◌, ◌⊎◌, None, Some, ap, arith, false, if◌then◌else◌, inl, inr, length, nat_eq, refl, slice_get, subst, sym, true, unwrap_or, ℕ}
-use Rattle.bloom_steps.proofs.Common.{take-length, both_ways, false_from_ne_true, ne_eqb, bit_is_on, content, place, content-past, EachPair, EachWord, LooksAt, Plan, TurnsOn, plan_of, End, Record, Began, Did, Step, BitsTell, moment, after_records, record_decides, step_decides, Course, IsLawful}
+use Rattle.bloom_steps.proofs.Common.{some_member, take-length, both_ways, false_from_ne_true, ne_eqb, bit_is_on, content, place, content-past, EachPair, EachWord, LooksAt, Plan, TurnsOn, plan_of, Record, Began, Did, Step, BitsTell, moment, after_records, record_decides, step_decides, Course, IsLawful}
 use Rattle.bloom_steps.proofs.RunLemmas.Changes.{DecidesOnly, TurnsOff, moment-more, or-decides_only, persists}
 use Rattle.bloom_steps.proofs.RunLemmas.RecordedCalls.{step_held}
 use Rattle.bloom_steps.proofs.RunLemmas.PlacedSteps.{IsPlacedAt}
+use Rattle.bloom_steps.proofs.RunLemmas.Scripted.{EachStep}
 use Rattle.bloom_steps.proofs.StepLemmas.Going.{step-pair}
-use Rattle.bloom_steps.proofs.StepLemmas.Members.{some_member}
 
 -- a word within isn't that of a position past
 not_here : (q i w : ℕ) → i < w → w ≤ q / 64 → nat_eq (q / 64) i ≡ false
@@ -47,10 +47,7 @@ not_off run m q r g only off =
 
 -- no step of a run decides to clear a position
 abbrev pub NoneMakesOff : Course → ℕ → Type 0
-NoneMakesOff run q =
-    (m p : ℕ) (step : Step) (found : ℕ) (e : End) → slice_get run.records m ≡ Some
-    (Did p step found e)
-    → DecidesOnly (Some true) q step
+NoneMakesOff run q = EachStep (DecidesOnly (Some true) q) run
 
 -- where no step decides to clear a position, no record clears it
 pub none_off : (run : Course) (q : ℕ) → NoneMakesOff run q → (m : ℕ) → m < length run.records

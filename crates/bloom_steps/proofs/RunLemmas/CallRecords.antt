@@ -1,16 +1,10 @@
 -- The records of a call among those of its party.
-use Rattle.std.proofs.Common.{[], ◌++◌, ◌<◌, ◌∙◌, ◌∷◌, ◌≡◌, ◌≢◌, ◌⊎◌, List, Some, ap, arith, inl, inr, refl, slice_get, subst, suc, sym, take, zero, ℕ}
-use Rattle.bloom_steps.proofs.Common.{append-nil, none-some, same_Some, Call, End, Running, Record, Began, Did, Step, IsBeginning, IsScript, Taken, CallAfterCall, begun_call, did, no_call, party_of, records_of, whole_call}
-use Rattle.bloom_steps.proofs.RunLemmas.RunningCalls.{OneEnd, one_end-later}
+use Rattle.std.proofs.Common.{[], ◌++◌, ◌<◌, ◌∙◌, ◌∷◌, ◌≡◌, ◌≢◌, ◌⊎◌, List, Some, ap, arith, drop, inl, inr, length, slice_get, subst, suc, sym, take, zero, ℕ}
+use Rattle.std.proofs.Math.Seq.{drop-append_seam}
+use Rattle.bloom_steps.proofs.Common.{member-seam, none-some, same_Some, slice_get_within, Call, End, Running, Record, Began, Did, Step, IsBeginning, IsScript, Taken, CallAfterCall, call_records, did, party_of, records_of}
+use Rattle.bloom_steps.proofs.RunLemmas.RecordedCalls.{of_call, which_of}
+use Rattle.bloom_steps.proofs.RunLemmas.RunningCalls.{OneEnd, one_end-first}
 use Rattle.bloom_steps.proofs.RunLemmas.PartyRecords.{mine_or_not, records_of-mine, records_of-none, records_of-other}
-
--- no call begins among the steps of a script
-strip : (p : ℕ) (s : List Taken) (later pre post : List Record) (call : Call)
-    → did p s ++ later ≡ pre ++ Began p call ∷ post
-    → (pre' : List Record) × (later ≡ pre' ++ Began p call ∷ post)
-strip p [] later pre post call e = (pre, e)
-strip p (t ∷ s) later [] post call e = absurd (cc)
-strip p (t ∷ s) later (x ∷ pre) post call e = strip p s later pre post call (cc)
 
 -- the script or beginning that follows a Began
 pub record Segment (w k p : ℕ) (call : Call) (post : List Record) : Type 0 where
@@ -22,38 +16,29 @@ pub record Segment (w k p : ℕ) (call : Call) (post : List Record) : Type 0 whe
 -- each beginning among a party's records is followed by one
 pub segment : (w k p : ℕ) (rs pre post : List Record) (call : Call) → CallAfterCall w k p rs
     → rs ≡ pre ++ Began p call ∷ post → Segment w k p call post
-segment w k p [] [] post call no_call e = absurd (cc)
-segment w k p [] (x ∷ pre) post call no_call e = absurd (cc)
-segment w k p (r ∷ rs) [] post call (begun_call c s b) e =
-    let same : c ≡ call = cc in
-    let tail : did p s ≡ post = cc in
-    record {
-      s = s;
-      later = [];
-      same = sym tail ∙ sym (append-nil (did p s));
-      kind = inr (subst (λ x. IsBeginning w k x s) same b, refl);
-    }
-segment w k p (r ∷ rs) (x ∷ pre) post call (begun_call c s b) e =
-    let tail : did p s ++ [] ≡ pre ++ Began p call ∷ post = append-nil (did p s) ∙ cc in
-    let no = strip p s [] pre post call tail in
-    absurd (nil_no no.0 no.1)
-  where
-    nil_no : (xs : List Record) → [] ≡ xs ++ Began p call ∷ post → ⊥
-    nil_no [] f = cc
-    nil_no (y ∷ ys) f = cc
-segment w k p (r ∷ rs) [] post call (whole_call c s later b more) e =
-    let same : c ≡ call = cc in
-    let tail : did p s ++ later ≡ post = cc in
-    record {
-      s = s;
-      later = later;
-      same = sym tail;
-      kind = inl (subst (λ x. IsScript w k x s) same b);
-    }
-segment w k p (r ∷ rs) (x ∷ pre) post call (whole_call c s later b more) e =
-    let tail : did p s ++ later ≡ pre ++ Began p call ∷ post = cc in
-    let at = strip p s later pre post call tail in
-    segment w k p later at.0 post call more at.1
+segment w k p rs pre post call calls e =
+    let first = Began p call in
+    let i = length pre in
+    let here : slice_get rs i ≡ Some first =
+    ap (λ l. slice_get l i) e ∙ member-seam pre post first in
+    let of = of_call w k p rs i calls (slice_get_within rs i first here) in
+    let own = call_records p of.call of.s ++ of.later in
+    elim (which_of w k p rs i first of here) [
+      | inl (at_first, is) ↦
+          let place : i ≡ length of.earlier = omega (arith, of.at, at_first) in
+          let both : first ∷ post ≡ own =
+          sym (drop-append_seam pre (first ∷ post)) ∙ ap (drop i) (sym e ∙ of.all)
+          ∙ ap (λ n. drop n (of.earlier ++ own)) place ∙ drop-append_seam of.earlier own in
+          let same : of.call ≡ call = cc in
+          record {
+            s = of.s;
+            later = of.later;
+            same = cc;
+            kind = subst (λ c. IsScript w k c of.s ⊎ (IsBeginning w k c of.s × (of.later ≡ [])))
+                same of.kind;
+          }
+      | inr (j, t, place, got, is) ↦ absurd (cc)
+    ]
 
 -- up to the record at n a party's records don't end its call, and that at n does
 pub record EndsAt (mid : List Record) (p n : ℕ) (last : Taken) : Type 0 where
@@ -80,53 +65,33 @@ pub front_is :
     → records_of p (take (suc n) mid) ≡ did p s
 front_is p [] n last s later e o end = absurd (none-some _ end.here)
 front_is p (r ∷ mid) n last [] later e o end = let some = o.some in absurd (omega arith)
-front_is p (r ∷ mid) zero last (t ∷ []) later e o end =
+front_is p (r ∷ mid) zero last (t ∷ s) later e o end =
     let is = same_Some _ _ end.here in
     let mine : party_of r ≡ p = ap party_of is in
     let own = sym (records_of-mine p r mid mine) ∙ e in
-    records_of-mine p r [] mine ∙ ap (λ l. r ∷ l) (records_of-none p) ∙ heads own
-  where
-    heads : r ∷ records_of p mid ≡ Did p t.step t.found t.ended ∷ later
-        → r ∷ [] ≡ Did p t.step t.found t.ended ∷ []
-    heads f = cc
-front_is p (r ∷ mid) zero last (t ∷ (u ∷ s)) later e o end =
-    let is = same_Some _ _ end.here in
-    let mine : party_of r ≡ p = ap party_of is in
-    let own = sym (records_of-mine p r mid mine) ∙ e in
-    let running = o.running 0 t refl (omega arith) in
-    let over = end.over in
-    absurd (over (heads is own ∙ running))
-  where
-    heads : r ≡ Did p last.step last.found last.ended
-        → r ∷ records_of p mid ≡ Did p t.step t.found t.ended ∷ (did p (u ∷ s) ++ later)
-        → last.ended ≡ t.ended
-    heads is f = cc
-front_is p (r ∷ mid) (suc n) last (t ∷ s) later e o end =
-    elim (mine_or_not p r) [
-      | inl y ↦
-          mine s (λ l f q. front_is p mid n last l later f q (later_end r mid p n last end)) y e o
-      | inr ne ↦ records_of-other p r (take (suc n) mid) ne
-          ∙ front_is p mid n last (t ∷ s) later (sym (records_of-other p r mid ne) ∙ e) o
-          (later_end r mid p n last end)
+    let same : r ≡ Did p t.step t.found t.ended = cc in
+    elim (one_end-first t s o) [
+      | inl (running, more) ↦
+          let ends : last.ended ≡ t.ended = (let both = sym is ∙ same in cc) in
+          absurd (end.over (ends ∙ running))
+      | inr (over, none) ↦ records_of-mine p r [] mine
+          ∙ ap (λ l. r ∷ l) (records_of-none p) ∙ ap (λ x. x ∷ []) same
+          ∙ ap (λ l. did p (t ∷ l)) (sym none)
     ]
-  where
-    open_at : (x : Record) → party_of x ≡ p → r ≡ x → x ≡ Did p t.step t.found t.ended
-        → t.ended ≡ Running
-    open_at x y is same = end.still 0 t.step t.found t.ended (omega arith) (ap Some (is ∙ same))
-
-    mine : (s : List Taken)
-        → ((l : List Taken) → records_of p mid ≡ did p l ++ later → OneEnd l
-        → records_of p (take (suc n) mid) ≡ did p l)
-        → party_of r ≡ p → records_of p (r ∷ mid) ≡ did p (t ∷ s) ++ later → OneEnd (t ∷ s)
-        → records_of p (r ∷ take (suc n) mid) ≡ did p (t ∷ s)
-    mine [] rec y e o =
-        let own = sym (records_of-mine p r mid y) ∙ e in
-        let same : r ≡ Did p t.step t.found t.ended = cc in
-        absurd (o.ended 0 t refl refl (open_at r y refl same))
-    mine (u ∷ s) rec y e o =
-        let own = sym (records_of-mine p r mid y) ∙ e in
-        let same : r ≡ Did p t.step t.found t.ended = cc in
-        let tail : records_of p mid ≡ did p (u ∷ s) ++ later = cc in
-        records_of-mine p r (take (suc n) mid) y
-        ∙ ap (λ x. x ∷ records_of p (take (suc n) mid)) same
-        ∙ ap (λ l. Did p t.step t.found t.ended ∷ l) (rec (u ∷ s) tail (one_end-later t u s o))
+front_is p (r ∷ mid) (suc n) last (t ∷ s) later e o end = elim (mine_or_not p r) [
+  | inl mine ↦
+      let own = sym (records_of-mine p r mid mine) ∙ e in
+      let same : r ≡ Did p t.step t.found t.ended = cc in
+      let tail : records_of p mid ≡ did p s ++ later = cc in
+      elim (one_end-first t s o) [
+        | inl (running, more) ↦ records_of-mine p r (take (suc n) mid) mine
+            ∙ ap (λ x. x ∷ records_of p (take (suc n) mid)) same
+            ∙ ap (λ l. Did p t.step t.found t.ended ∷ l)
+            (front_is p mid n last s later tail more (later_end r mid p n last end))
+        | inr (over, none) ↦
+            absurd (over (end.still 0 t.step t.found t.ended (omega arith) (ap Some same)))
+      ]
+  | inr other ↦ records_of-other p r (take (suc n) mid) other
+      ∙ front_is p mid n last (t ∷ s) later (sym (records_of-other p r mid other) ∙ e) o
+      (later_end r mid p n last end)
+]

@@ -1,5 +1,5 @@
 -- The answer of a whole call, alone, is its command's reply in the set before.
-use Rattle.bloom_steps.proofs.Common.{TurnsOn, both_ways, cases_lt, false_from_ne_true, true_from_ne_false, slice_get_within, bit_is_on, are_in, place, End, Call, Contains, Insert, Did, AllFoundOn, IsScript, Taken, answer_of, answer_of_end, Any, IsLastEnd, command_of, after_records, step_decides, MayFind, did, are_in-off}
+use Rattle.bloom_steps.proofs.Common.{some_member, take-more, TurnsOn, both_ways, cases_lt, false_from_ne_true, true_from_ne_false, slice_get_within, bit_is_on, are_in, place, End, Call, Contains, Insert, Did, AllFoundOn, IsScript, Taken, answer_of, answer_of_end, Any, IsLastEnd, command_of, after_records, step_decides, MayFind, did, are_in-off}
 use Rattle.std.proofs.Common.{◌*◌, ◌+◌, ◌∙◌, ◌≡◌, ◌≤◌, Bool, List, None, Some, add-one, ap, arith, false, inl, inr, length, refl, slice_get, subst, suc, sym, take, true, unwrap_or, zero, ℕ, ◌<◌}
 use Rattle.bloom_parts.specs.Operations.{reply}
 use Rattle.bloom_steps.proofs.RunLemmas.CallSets.{contains-all, insert-all}
@@ -8,7 +8,6 @@ use Rattle.bloom_steps.proofs.RunLemmas.CallSteps.{Fits, all_decide-take, steps-
 use Rattle.bloom_steps.proofs.RunLemmas.PartyRecords.{did-get, did-more, did-take}
 use Rattle.bloom_steps.proofs.RunLemmas.Positions.{are_in-all, both_alike}
 use Rattle.bloom_steps.proofs.StepLemmas.Deciding.{records-more}
-use Rattle.bloom_steps.proofs.StepLemmas.Members.{some_member, take-more}
 use Rattle.bloom_steps.proofs.StepLemmas.Whole.{last-of, silent}
 
 -- a script that a party makes alone

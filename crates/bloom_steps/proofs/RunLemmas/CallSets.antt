@@ -1,14 +1,13 @@
 -- The set after a whole call, alone, is what its command makes of that before.
-use Rattle.bloom_steps.proofs.Common.{Step, Call, Clear, Contains, Insert, Intersect, Union, And, Or, Zero, take-length, both_ways, cases_lt, slice_get_within, content, place, positions, position-from, position-to, AreStepsOf, IsScript, Taken, Each, EachPair, command_of, other_words, after_records, or_at, step_decides, did}
-use Rattle.std.proofs.Common.{◌*◌, ◌/◌, ◌∙◌, ◌≡◌, ◌≤◌, ◌⊎◌, Bool, List, None, Some, ap, arith, eq-eqb, false, if◌then◌else◌, inl, inr, length, nat_eq, refl, sym, true, unwrap_or, ℕ}
+use Rattle.bloom_steps.proofs.Common.{some_member, Step, Call, Clear, Contains, Insert, Intersect, Union, And, Or, Zero, take-length, both_ways, cases_lt, slice_get_within, content, place, positions, position-from, position-to, AreStepsOf, IsScript, Taken, Each, EachPair, command_of, other_words, after_records, or_at, step_decides, did}
+use Rattle.std.proofs.Common.{◌*◌, ◌/◌, ◌∙◌, ◌≡◌, ◌≤◌, Bool, List, None, Some, ap, arith, eq-eqb, false, if◌then◌else◌, inl, inr, length, nat_eq, refl, sym, true, unwrap_or, ℕ}
 use Rattle.bloom_steps.specs.declared.steps.vocabulary.Call.TheVariants.{Take}
 use Rattle.bloom_steps.specs.declared.steps.vocabulary.Step.TheVariants as step
 use Rattle.bloom_parts.specs.Operations.{decides}
-use Rattle.bloom_steps.proofs.RunLemmas.Changes.{or_at-decides}
+use Rattle.bloom_steps.proofs.RunLemmas.Changes.{only-where, or_at-decides}
 use Rattle.bloom_steps.proofs.RunLemmas.CallSteps.{AllDecide, Fits, steps-none, steps-some}
 use Rattle.bloom_steps.proofs.RunLemmas.PairSteps.{other-past, pairs-steps}
 use Rattle.bloom_steps.proofs.StepLemmas.Plans.{ReadsNoOther, TurnsBy, TurnsWordOff, made, plan_decides}
-use Rattle.bloom_steps.proofs.StepLemmas.Members.{some_member}
 
 -- past the words nothing is set, before a call and after it
 past : (w p : ℕ) (A : ℕ → Bool) (s : List Taken) (q : ℕ) → Fits w A (did p s) → w ≤ q / 64
@@ -74,16 +73,10 @@ module _ (w k p : ℕ) (s : List Taken) (A : ℕ → Bool) where
     | inr l ↦ (past w p A s q f l).1
   ]
     where
-      either : (b : Bool)
-          → ((if b then Some false else None) ≡ None)
-          ⊎ ((if b then Some false else None) ≡ Some false)
-      either true = inr refl
-      either false = inl refl
-
       all : AllDecide s q (Some false)
       all i u g =
           let decides = ap (λ x. step_decides x q) (steps i u g) ∙ off i q in
-          elim (either (nat_eq (q / 64) i)) [
+          elim (only-where (nat_eq (q / 64) i) (Some false)) [
             | inl none ↦ inl (decides ∙ none)
             | inr some ↦ inr (decides ∙ some)
           ]

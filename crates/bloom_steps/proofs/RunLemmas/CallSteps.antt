@@ -1,22 +1,9 @@
 -- What the steps of one call make of a set, alone.
 use Rattle.std.proofs.Common.{[], ◌++◌, ◌+◌, ◌/◌, ◌∙◌, ◌∷◌, ◌≡◌, ◌≤◌, ◌⊎◌, Bool, List, None, Option, Some, ap, arith, false, inl, inr, length, length-append, map, refl, slice_get, subst, suc, sym, take, true, unwrap_or, zero, ℕ}
-use Rattle.bloom_steps.proofs.Common.{take-append-add, take-append-le, none-some, same_Some, slice_get_within, last_decision, Record, Step, Other, Zero, Each, Taken, after_records, record_decides, step_decides, word_index, FindsWhatIsThere, IsWordOf, MayFind, did}
+use Rattle.bloom_steps.proofs.Common.{member-back, member-front, member_of_take, take-append-add, take-append-le, none-some, same_Some, slice_get_within, last_decision, Record, Each, Taken, after_records, record_decides, step_decides, FindsWhatIsThere, MayFind, did}
 use Rattle.std.specs.Option.{option_or}
 use Rattle.bloom_steps.proofs.RunLemmas.Changes.{DecidesOnly}
 use Rattle.bloom_steps.proofs.StepLemmas.Deciding.{records-append}
-use Rattle.bloom_steps.proofs.StepLemmas.Members.{member-back, member-front, member_of_take}
-
--- a word of a set looks at its bits alone
-is_word-same : (A B : ℕ → Bool) (i found : ℕ) → ((q : ℕ) → A q ≡ B q) → IsWordOf A i found
-    → IsWordOf B i found
-is_word-same A B i found same f = record { fits = f.fits; bits = λ p at. f.bits p at ∙ same p }
-
--- what may be found in a set looks at its bits alone
-may_find-same : (A B : ℕ → Bool) (step : Step) (found : ℕ) → ((q : ℕ) → A q ≡ B q)
-    → MayFind A step found → MayFind B step found
-may_find-same A B (Zero i) found same f = f
-may_find-same A B (Other i) found same f = f
-may_find-same A B step found same f = is_word-same A B (word_index step) found same f
 
 -- records fit a set of w words: they find what is there, and past the words nothing is set
 pub record Fits (w : ℕ) (A : ℕ → Bool) (rs : List Record) : Type 0 where
@@ -44,9 +31,7 @@ fits-back w A xs ys f =
     let longer = length-append xs ys in
     record {
       finds = λ m party step found e g.
-          may_find-same (after_records A (xs ++ take m ys))
-          (after_records (after_records A xs) (take m ys)) step found
-          (λ q. records-append A xs (take m ys) q)
+          subst (λ B. MayFind B step found) (λ j q. records-append A xs (take m ys) q j)
           (subst (λ l. MayFind (after_records A l) step found) (take-append-add xs ys m)
           (f.finds (length xs + m) party step found e (member-back xs ys m (length xs + m) refl
           ∙ g)));

@@ -1,9 +1,8 @@
 -- What a record changes, and what stays.
-use Rattle.bloom_steps.proofs.Common.{Answer, Record, Did, Step, Or, and_from, and_parts, both_ways, eqb-true, not-true, eqb_tells, bit_is_on, content, moment, turns_off, turns_on, Taken, after_records, or_at, record_decides, step_decides, Course, IsLawful}
+use Rattle.bloom_steps.proofs.Common.{take-more, Answer, Record, Step, Or, and_from, and_parts, both_ways, eqb-true, not-true, eqb_tells, bit_is_on, content, moment, turns_off, turns_on, after_records, or_at, record_decides, step_decides, Course}
 use Rattle.std.proofs.Common.{◌%◌, ◌&&◌, ◌+◌, ◌/◌, ◌<◌, ◌^◌, ◌∙◌, ◌≡◌, ◌≢◌, ◌≤◌, ◌⊎◌, Bool, None, Option, Some, ap, arith, eq-eqb, false, if◌then◌else◌, inl, inr, nat_eq, not, refl, slice_get, suc, sym, take, true, unwrap_or, zero, ℕ}
 use Rattle.std.proofs.lemmas.Nat.Bits.{bit_at-pow_other, bit_at-pow_same}
 use Rattle.bloom_steps.proofs.StepLemmas.Deciding.{records-more}
-use Rattle.bloom_steps.proofs.StepLemmas.Members.{take-more}
 
 -- the mask of a position has its bit
 own_mask : (q : ℕ) → bit_is_on (2 ^ (q % 64)) q ≡ true
@@ -54,14 +53,15 @@ or_at-decides q j = elim (eqb_tells j q) [
 abbrev pub DecidesOnly : Option Bool → ℕ → Step → Type 0
 DecidesOnly d q step = (step_decides step q ≡ None) ⊎ (step_decides step q ≡ d)
 
+-- what is decided where a test passes is decided, or nothing is
+pub only-where : (test : Bool) (d : Option Bool)
+    → ((if test then d else None) ≡ None) ⊎ ((if test then d else None) ≡ d)
+only-where true d = inr refl
+only-where false d = inl refl
+
 -- a mask that sets bits decides to clear nothing
 pub or-decides_only : (i mask q : ℕ) → DecidesOnly (Some true) q (Or i mask)
-or-decides_only i mask q = go (nat_eq (q / 64) i && bit_is_on mask q)
-  where
-    go : (b : Bool)
-        → ((if b then Some true else None) ≡ None) ⊎ ((if b then Some true else None) ≡ Some true)
-    go true = inr refl
-    go false = inl refl
+or-decides_only i mask q = only-where (nat_eq (q / 64) i && bit_is_on mask q) (Some true)
 
 -- a position is cleared by record m
 abbrev pub TurnsOff : Course → ℕ → ℕ → Type 0
@@ -108,20 +108,6 @@ module _ (run : Course) where
           → moment run ((first + n) + 1) q ≡ true
       go true is before = is
       go false is before = absurd (calm (first + n) (omega arith) (omega (arith, e)) (before, is))
-
--- a step of a lawful run
-module _ (k : ℕ) (run : Course) (lawful : IsLawful k run) (m party q : ℕ) (t : Taken)
-    (at : slice_get run.records m ≡ Some (Did party t.step t.found t.ended)) where
-  -- what a step that sets a position does to each
-  pub moment-or : (j : ℕ) → t.step ≡ or_at q
-      → moment run (m + 1) j ≡ unwrap_or (step_decides (or_at q) j) (moment run m j)
-  moment-or j step =
-      moment-more run m (Did party t.step t.found t.ended) j at
-      ∙ ap (λ x. unwrap_or (step_decides x j) (moment run m j)) step
-
-  -- after a step that sets a position it is set
-  pub on-or : t.step ≡ or_at q → moment run (m + 1) q ≡ true
-  on-or step = moment-or q step ∙ ap (λ o. unwrap_or o (moment run m q)) (or_at-own q)
 
 -- answers are told apart
 pub same-answer : (a b : Bool) → Answer a ≡ Answer b → a ≡ b

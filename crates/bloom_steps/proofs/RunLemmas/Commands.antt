@@ -1,26 +1,13 @@
 -- Whole calls, one after the other, act as the list of their commands.
-use Rattle.std.proofs.Common.{[], ◌*◌, ◌∙◌, ◌∷◌, ◌≡◌, ◌≤◌, Bool, List, None, Option, Some, ap, option_map, length, map, refl, slice_get, subst, suc, sym, take, unwrap_or, zero, ℕ}
-use Rattle.bloom_steps.proofs.Common.{none-some, same_Some, content, Call, Record, Began, are_in, answer_of, ActsAs, ActsAsCommands, Cut, MadeCall, command_of, commands_of, cut, other_words, after_records, Course, IsLawful, call_records, did}
-use Rattle.bloom_parts.specs.Operations.{asked_by}
-use Rattle.bloom_parts.specs.Operations.{Operation, decides, state_after}
-use Rattle.bloom_parts.specs.Operations.{reply}
+use Rattle.std.proofs.Common.{[], ◌*◌, ◌∙◌, ◌∷◌, ◌≡◌, ◌≤◌, Bool, List, Some, ap, length, map, refl, slice_get, subst, suc, sym, take, unwrap_or, zero, ℕ}
+use Rattle.bloom_steps.proofs.Common.{none-some, same_Some, content, Record, Began, answer_of, ActsAs, ActsAsCommands, Cut, MadeCall, command_of, commands_of, cut, other_words, after_records, Course, IsLawful, call_records, did}
+use Rattle.bloom_parts.specs.Operations.{Operation, decides, reply, state_after}
 use Rattle.bloom_steps.proofs.RunLemmas.CallSets.{call-steps}
 use Rattle.bloom_steps.proofs.RunLemmas.CallReplies.{call-answer}
 use Rattle.bloom_steps.proofs.RunLemmas.Bounds.{moment-past}
 use Rattle.bloom_steps.proofs.RunLemmas.OneByOne.{OneByOne, cut-calls, next_call, no_more, one_by_one}
 use Rattle.bloom_steps.proofs.RunLemmas.CallSteps.{Fits, fits-back, fits-front}
-use Rattle.bloom_steps.proofs.RunLemmas.Positions.{are_in-same}
 use Rattle.bloom_steps.proofs.StepLemmas.Deciding.{records-append, state-first, state-same}
-
--- a reply looks at the bits of the set alone
-reply-same : (n k : ℕ) (call : Call) (other A B : ℕ → Bool) → ((q : ℕ) → A q ≡ B q)
-    → reply n k A (command_of call other) ≡ reply n k B (command_of call other)
-reply-same n k call other A B same = go (asked_by (command_of call other))
-  where
-    go : (hash : Option ℕ)
-        → option_map (λ h. are_in n k h A) hash ≡ option_map (λ h. are_in n k h B) hash
-    go None = refl
-    go (Some h) = ap Some (are_in-same n k h A B same)
 
 -- the set and the answers of calls, over a set of w words
 record Acts (w k : ℕ) (A : ℕ → Bool) (rs : List Record) (made : List MadeCall) : Type 0 where
@@ -83,18 +70,14 @@ acts w k A _ _ some_hashes (next_call p call s later made is more) f =
         mine
     answers B mine next rest (suc i) m g =
         rest.answers i m g
-        ∙ reply-same (64 * w) k m.call (content (other_words m.taken))
-        (state_after (64 * w) k B (commands_of (take i made)))
-        (state_after (64 * w) k A
-        (command_of call (content (other_words s)) ∷ commands_of (take i made)))
-        (next (commands_of (take i made)))
+        ∙ ap (λ C. reply (64 * w) k C (command_of m.call (content (other_words m.taken))))
+        (λ j q. next (commands_of (take i made)) q j)
 
 -- one call at a time behaves as the list of commands
-pub acts_as_commands : (k : ℕ) (run : Course) → IsLawful k run → 1 ≤ length run.start → 1 ≤ k
-    → ActsAsCommands k run
-acts_as_commands k run lawful some_words some_hashes one ended =
+pub acts_as_commands : (k : ℕ) (run : Course) → IsLawful k run → 1 ≤ k → ActsAsCommands k run
+acts_as_commands k run lawful some_hashes one ended =
     let w = length run.start in
-    let made = one_by_one w k some_words some_hashes run.records lawful.calls one ended in
+    let made = one_by_one w k run.records lawful.calls one ended in
     let fits : Fits w (content run.start) run.records =
     record { finds = lawful.finds; within = moment-past k run lawful } in
     let a = acts w k (content run.start) run.records made.0 some_hashes made.1 fits in

@@ -1,8 +1,7 @@
 -- Unions of any kind: each step reads a word of the other filter, or sets what such a step found.
 use Rattle.std.proofs.Common.{◌*◌, ◌+◌, ◌∙◌, ◌≡◌, ◌⊎◌, List, ap, arith, inl, inr, slice_get, sym, true, ℕ}
-use Rattle.bloom_steps.proofs.Common.{slice_get_within, Union, Or, Other, Any, Each, IsScript, Taken}
+use Rattle.bloom_steps.proofs.Common.{some_member, slice_get_within, Union, Or, Other, Any, Each, IsScript, Taken}
 use Rattle.bloom_steps.proofs.StepLemmas.Going.{operates, parity, reads}
-use Rattle.bloom_steps.proofs.StepLemmas.Members.{some_member}
 
 -- a step sets what another, which read the other filter's word, found
 abbrev pub Copies : List Taken → Taken → Type 0

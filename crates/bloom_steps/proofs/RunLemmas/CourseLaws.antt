@@ -10,7 +10,7 @@ pub course_law : (k : ℕ) (run : Course) → 1 ≤ k → 1 ≤ length run.start
     → LawfulTells k run
 course_law k run some_hashes some_words lawful = record {
   each = tells k run lawful some_words some_hashes;
-  commands = acts_as_commands k run lawful some_words some_hashes;
+  commands = acts_as_commands k run lawful some_hashes;
   grows = ends_with_all k run lawful;
   gained = counts_gains k run lawful;
   taken = takes_lose_nothing k run lawful;

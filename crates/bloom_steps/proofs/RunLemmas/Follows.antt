@@ -1,10 +1,9 @@
 -- Events, one after the other, and what they add.
-use Rattle.bloom_steps.proofs.Common.{World, append-nil, slice_get-get_or, slice_index_or, Event, Record, FollowsFrom, Gives, next_event, no_event, RecordsGrow, IsWorldOf, Happens}
+use Rattle.bloom_steps.proofs.Common.{take-more, World, append-nil, slice_get-get_or, slice_index_or, Event, Record, FollowsFrom, Gives, next_event, no_event, RecordsGrow, IsWorldOf, Happens}
 use Rattle.std.proofs.Common.{[], ◌++◌, ◌+◌, ◌<◌, ◌∷◌, ◌≡◌, ◌≤◌, List, append_assoc, arith, length, subst, sym, take, vec_capacity, vec_len, ℕ, ◌∙◌}
-use Rattle.bloom_steps.proofs.StepLemmas.Members.{take-more}
 
 -- one event more
-pub follows-more :
+follows-more :
     (parties : ℕ) (before : List Record) (es : List Event) (added : List Record) (e : Event)
     (more : List Record)
     → FollowsFrom parties before es added → Gives parties (before ++ added) e more
@@ -20,24 +19,6 @@ follows-more parties before (first ∷ es) _ e more (next_event _ _ _ added late
     (sym (append_assoc added later more))
     (next_event before first (es ++ e ∷ []) added (later ++ more) gives
     (follows-more parties (before ++ added) es later e more rest last))
-
--- the first events, and the one that is read next
-take-read : (xs : List Event) (i : ℕ) (d : Event) → i < length xs
-    → take (i + 1) xs ≡ take i xs ++ slice_index_or xs i d ∷ []
-take-read xs i d within = take-more xs i (slice_index_or xs i d) (slice_get-get_or xs i d within)
-
--- the next event of a schedule
-pub follows-next :
-    (count parties : ℕ) (schedule : List Event) (i : ℕ) (d : Event) (before after : List Record)
-    → count ≡ parties → i < length schedule → FollowsFrom parties [] (take i schedule) before
-    → RecordsGrow count (slice_index_or schedule i d) before after
-    → FollowsFrom parties [] (take (i + 1) schedule) after
-follows-next count parties schedule i d before after all within so grows =
-    let event = slice_index_or schedule i d in
-    let g = subst (λ n. RecordsGrow n event before after) all grows in
-    subst (λ es. FollowsFrom parties [] es after) (sym (take-read schedule i d within))
-    (subst (λ rs. FollowsFrom parties [] (take i schedule ++ event ∷ []) rs) (sym g.same)
-    (follows-more parties [] (take i schedule) before event g.added so g.gives))
 
 -- a run so far: its world is that of the events up to one, from given words, and there is room for
 -- a record of each event that is left
@@ -78,13 +59,20 @@ pub run-next : (k parties : ℕ) (words : List ℕ) (schedule : List Event) (i :
     → i < length schedule → HasRun k parties words schedule i old
     → HappensInRoom k (slice_index_or schedule i d) old new
     → HasRun k parties words schedule (i + 1) new
-run-next k parties words schedule i d old new within before did = record {
-  parties = did.happens.parties ∙ before.parties;
-  start = did.happens.start ∙ before.start;
-  world = did.happens.keeps;
-  follows =
-      follows-next _ parties schedule i d _ _ before.parties within before.follows
-      did.happens.grows;
-  recorded = omega (arith, before.recorded, did.count);
-  room = omega (arith, before.room, did.capacity);
-}
+run-next k parties words schedule i d old new within before did =
+    let event = slice_index_or schedule i d in
+    let records = new.records.items in
+    let more =
+    subst (λ n. RecordsGrow n event old.records.items records) before.parties did.happens.grows in
+    let read = take-more schedule i event (slice_get-get_or schedule i d within) in
+    record {
+      parties = did.happens.parties ∙ before.parties;
+      start = did.happens.start ∙ before.start;
+      world = did.happens.keeps;
+      follows = subst (λ es. FollowsFrom parties [] es records) (sym read)
+          (subst (FollowsFrom parties [] (take i schedule ++ event ∷ [])) (sym more.same)
+          (follows-more parties [] (take i schedule) old.records.items event more.added
+          before.follows more.gives));
+      recorded = omega (arith, before.recorded, did.count);
+      room = omega (arith, before.room, did.capacity);
+    }

@@ -1,9 +1,8 @@
 -- While calls are made one at a time, a whole call stands in front of the records.
-use Rattle.std.proofs.Common.{[], ◌++◌, ◌+◌, ◌∙◌, ◌∷◌, ◌≡◌, ◌≢◌, ◌≤◌, List, ap, arith, false, inl, inr, length, refl, subst, sym, take, true, ℕ}
-use Rattle.bloom_steps.proofs.Common.{take-append-add, both_ways, false_from_ne_true, eqb_tells, Call, Record, Began, Did, EveryCallEnded, OneAtATime, IsScript, Taken, CallAfterCall, begun_call, call_records, did, last_leaves_running, leaves_running, party_of, records_of, runs, whole_call}
-use Rattle.bloom_steps.proofs.RunLemmas.RunningCalls.{OneEnd, newest-call, one_end-later, one_end-script, runs_after, still_runs-beginning}
+use Rattle.std.proofs.Common.{[], ◌++◌, ◌+◌, ◌∙◌, ◌∷◌, ◌≡◌, ◌≢◌, ◌≤◌, List, ap, arith, false, inl, inr, length, refl, subst, suc, sym, take, true, ℕ}
+use Rattle.bloom_steps.proofs.Common.{take-append-add, both_ways, false_from_ne_true, eqb_tells, Call, Record, Began, Did, EveryCallEnded, OneAtATime, AllButLast, IsScript, Running, Taken, CallAfterCall, begun_call, call_records, did, last_leaves_running, leaves_running, party_of, records_of, runs, whole_call}
+use Rattle.bloom_steps.proofs.RunLemmas.RunningCalls.{newest-call, runs_after, still_runs-beginning}
 use Rattle.bloom_steps.proofs.RunLemmas.PartyRecords.{mine_or_not, records_of-mine, records_of-none, records_of-other}
-use Rattle.bloom_steps.proofs.StepLemmas.Whole.{script_some}
 
 -- calls made one at a time are made so in later records too
 pub one_later : (xs ys : List Record) → OneAtATime (xs ++ ys) → OneAtATime ys
@@ -53,48 +52,36 @@ record Front (p : ℕ) (s : List Taken) (later rest : List Record) : Type 0 wher
   pub own : records_of p after ≡ later
   pub others : (q : ℕ) → q ≢ p → records_of q after ≡ records_of q rest
 
--- one step more of the call in front
-front-more : (p : ℕ) (t : Taken) (s : List Taken) (later : List Record) (r : Record)
-    (rest : List Record) → r ≡ Did p t.step t.found t.ended
-    → ((q : ℕ) → q ≢ p → records_of q (r ∷ rest) ≡ records_of q rest) → Front p s later rest
-    → Front p (t ∷ s) later (r ∷ rest)
-front-more p t s later r rest head apart more = record {
-  after = more.after;
-  same = ap (λ v. v ∷ rest) head ∙ ap (λ l. Did p t.step t.found t.ended ∷ l) more.same;
-  own = more.own;
-  others = λ q n. more.others q n ∙ sym (apart q n);
-}
-
 -- the records begin with the steps of the call that runs alone
-front : (w k p : ℕ) (x : Record) (s : List Taken) (later rest : List Record) → OneEnd s
-    → party_of x ≡ p → leaves_running x ≡ true
-    → OneAtATime (x ∷ rest) → ((q : ℕ) → q ≢ p → CallAfterCall w k q (records_of q rest))
-    → records_of p rest ≡ did p s ++ later
-    → Front p s later rest
-front w k p x [] later rest o mine on one calls e = let some = o.some in absurd (omega arith)
-front w k p x (t ∷ s) later [] o mine on one calls e = let none = records_of-none p in absurd (cc)
-front w k p x (t ∷ []) later (r ∷ rest) o mine on one calls e =
-    let next = next_own w k p x r rest one mine on calls in
+front : (w k p : ℕ) (x : Record) (s : List Taken) (later rest : List Record)
+    → AllButLast s (λ i t. t.ended ≡ Running) → party_of x ≡ p
+    → (1 ≤ length s → leaves_running x ≡ true) → OneAtATime (x ∷ rest)
+    → ((q : ℕ) → q ≢ p → CallAfterCall w k q (records_of q rest))
+    → records_of p rest ≡ did p s ++ later → Front p s later rest
+front w k p x [] later rest running mine on one calls e =
+    record { after = rest; same = refl; own = e; others = λ q n. refl }
+front w k p x (t ∷ s) later [] running mine on one calls e =
+    let none = records_of-none p in absurd (cc)
+front w k p x (t ∷ s) later (r ∷ rest) running mine on one calls e =
+    let next = next_own w k p x r rest one mine (on (omega arith)) calls in
     let own = sym (records_of-mine p r rest next) ∙ e in
     let head : r ≡ Did p t.step t.found t.ended = cc in
-    let tail : records_of p rest ≡ later = cc in
-    front-more p t [] later r rest head
-    (λ q n. records_of-other q r rest (λ z. n (sym z ∙ next)))
-    (record { after = rest; same = refl; own = tail; others = λ q n. refl })
-front w k p x (t ∷ (u ∷ s)) later (r ∷ rest) o mine on one calls e =
-    let next = next_own w k p x r rest one mine on calls in
-    let own = sym (records_of-mine p r rest next) ∙ e in
-    let head : r ≡ Did p t.step t.found t.ended = cc in
-    let tail : records_of p rest ≡ did p (u ∷ s) ++ later = cc in
-    let running = o.running 0 t refl (omega arith) in
-    let still : leaves_running r ≡ true =
-    ap leaves_running head ∙ ap (λ e. leaves_running (Did p t.step t.found e)) running in
+    let tail : records_of p rest ≡ did p s ++ later = cc in
     let apart : (q : ℕ) → q ≢ p → records_of q (r ∷ rest) ≡ records_of q rest =
     λ q n. records_of-other q r rest (λ z. n (sym z ∙ next)) in
-    front-more p t (u ∷ s) later r rest head apart
-    (front w k p r (u ∷ s) later rest (one_end-later t u s o) next still
-    (one_later (x ∷ []) (r ∷ rest) one)
-    (λ q n. subst (CallAfterCall w k q) (apart q n) (calls q n)) tail)
+    let still : 1 ≤ length s → leaves_running r ≡ true =
+    λ some. ap leaves_running head
+    ∙ ap (λ e. leaves_running (Did p t.step t.found e)) (running 0 t refl (omega (arith, some))) in
+    let more =
+    front w k p r s later rest (λ i u g short. running (suc i) u g (omega (arith, short))) next
+    still (one_later (x ∷ []) (r ∷ rest) one)
+    (λ q n. subst (CallAfterCall w k q) (apart q n) (calls q n)) tail in
+    record {
+      after = more.after;
+      same = ap (λ v. v ∷ rest) head ∙ ap (λ l. Did p t.step t.found t.ended ∷ l) more.same;
+      own = more.own;
+      others = λ q n. more.others q n ∙ sym (apart q n);
+    }
 
 -- the first call of a party whose calls have all ended
 record First (w k p : ℕ) (r : Record) (rs : List Record) : Type 0 where
@@ -138,46 +125,26 @@ pub record FirstWhole (w k : ℕ) (rs : List Record) : Type 0 where
   pub calls : (q : ℕ) → CallAfterCall w k q (records_of q after)
 
 -- where calls are made one at a time, the first record begins a whole call
-pub first_whole : (w k : ℕ) (some_words : 1 ≤ w) (some_hashes : 1 ≤ k) (r : Record)
-    (rest : List Record)
+pub first_whole : (w k : ℕ) (r : Record) (rest : List Record)
     → ((q : ℕ) → CallAfterCall w k q (records_of q (r ∷ rest))) → OneAtATime (r ∷ rest)
     → EveryCallEnded (r ∷ rest) → FirstWhole w k (r ∷ rest)
-first_whole w k some_words some_hashes r rest calls one ended =
-    go (first_call w k p r (records_of p rest) its over)
-  where
-    p : ℕ
-    p = party_of r
-
-    own : records_of p (r ∷ rest) ≡ r ∷ records_of p rest
-    own = records_of-mine p r rest refl
-
-    its : CallAfterCall w k p (r ∷ records_of p rest)
-    its = subst (CallAfterCall w k p) own (calls p)
-
-    over : last_leaves_running (r ∷ records_of p rest) ≡ false
-    over = sym (ap last_leaves_running own) ∙ ended p
-
-    others : (q : ℕ) → q ≢ p → CallAfterCall w k q (records_of q rest)
-    others q n =
-        subst (CallAfterCall w k q) (records_of-other q r rest (λ z. n (sym z))) (calls q)
-
-    with_front : (first : First w k p r (records_of p rest)) → Front p first.s first.later rest
-        → FirstWhole w k (r ∷ rest)
-    with_front first fr = record {
+first_whole w k r rest calls one ended =
+    let p = party_of r in
+    let own = records_of-mine p r rest refl in
+    let first =
+    first_call w k p r (records_of p rest) (subst (CallAfterCall w k p) own (calls p))
+    (sym (ap last_leaves_running own) ∙ ended p) in
+    let others : (q : ℕ) → q ≢ p → CallAfterCall w k q (records_of q rest) =
+    λ q n. subst (CallAfterCall w k q) (records_of-other q r rest (λ z. n (sym z))) (calls q) in
+    let fr =
+    front w k p r first.s first.later rest first.is.running refl
+    (λ some. ap leaves_running first.begins) one others first.same in
+    record {
       party = p;
       call = first.call;
       s = first.s;
       after = fr.after;
       is = first.is;
-      same =
-          ap (λ v. v ∷ rest) first.begins ∙ ap (λ l. Began p first.call ∷ l) fr.same;
+      same = ap (λ v. v ∷ rest) first.begins ∙ ap (λ l. Began p first.call ∷ l) fr.same;
       calls = calls_after w k p first.s first.later rest fr first.calls others;
     }
-
-    go : First w k p r (records_of p rest) → FirstWhole w k (r ∷ rest)
-    go first =
-        with_front first
-        (front w k p r first.s first.later rest
-        (one_end-script w k first.call first.s
-        (script_some w k first.call first.s some_words some_hashes first.is) first.is)
-        refl (ap leaves_running first.begins) one others first.same)

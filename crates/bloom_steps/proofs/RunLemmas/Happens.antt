@@ -1,10 +1,32 @@
 -- What an event does to the world of a run: a party begins a call, makes a step, or does nothing.
-use Rattle.std.proofs.Common.{[], ◌++◌, ◌<◌, ◌^◌, ◌∙◌, ◌∷◌, ◌≡◌, List, None, Option, Some, ap, arith, false, length, length-set, refl, slice_index_or, slice_set, true, vec_len, ℕ}
+use Rattle.std.proofs.Common.{[], ◌++◌, ◌<◌, ◌^◌, ◌∙◌, ◌∷◌, ◌≡◌, Bool, List, None, Option, Some, ap, arith, false, if◌then◌else◌, inl, inr, length, length-set, not, refl, slice_index_or, slice_set, sym, true, vec_len, ℕ}
 use Rattle.std.specs.Vec.{with_item}
-use Rattle.bloom_steps.proofs.Common.{Machine, World, Call, End, Event, Begin, Go, Record, Began, Did, Step, Gives, AsksRight, StandsFurther, found_in, words_after_step, StandsAt, asks, end_of, word_index, Happens, IsWorld, IsWorldOf, slot_runs}
-use Rattle.bloom_steps.proofs.RunLemmas.Events.{gives-begun, gives-busy, gives-idle, gives-step, grows-none, grows-one}
-use Rattle.bloom_steps.proofs.RunLemmas.Slots.{asks-going, asks-over, slot-read}
-use Rattle.bloom_steps.proofs.RunLemmas.Worlds.{begin_keeps, go_keeps, slot_same, step_inside}
+use Rattle.bloom_steps.proofs.Common.{append-nil, none-some, same_Some, slice_get-get_or, Machine, World, Call, End, Event, Begin, Go, Record, Began, Did, Step, Gives, AsksRight, StandsFurther, found_in, words_after_step, StandsAt, asks, end_of, next_step, plan_of, runs, word_index, Happens, IsWorld, IsWorldOf, RecordsGrow, slot_runs}
+use Rattle.bloom_steps.proofs.RunLemmas.Worlds.{begin_keeps, go_keeps, runs-slot, slot_same, step_inside}
+
+-- where a machine asks for a step its call goes on
+asks-going : (m : Machine) (step : Step) → asks m ≡ Some step → not m.ended ≡ true
+asks-going m step e = go m.ended e
+  where
+    go : (b : Bool) → (if b then None else Some (next_step (plan_of m.call) m)) ≡ Some step
+        → not b ≡ true
+    go true f = absurd (none-some _ f)
+    go false f = refl
+
+-- where a machine asks for no step its call has ended
+asks-over : (m : Machine) → asks m ≡ None → not m.ended ≡ false
+asks-over m e = go m.ended e
+  where
+    go : (b : Bool) → (if b then None else Some (next_step (plan_of m.call) m)) ≡ None
+        → not b ≡ false
+    go true f = refl
+    go false f = absurd (none-some _ (sym f))
+
+-- records grow by nothing
+grows-none : (parties : ℕ) (e : Event) (before : List Record) → Gives parties before e []
+    → RecordsGrow parties e before before
+grows-none parties e before gives =
+    record { added = []; same = sym (append-nil before); gives = gives }
 
 -- an event wrote these words, this machine into a party's slot, and one more record
 record Writes (old new : World) (p : ℕ) (words : List ℕ) (m : Machine) (r : Record) : Type 0
@@ -20,7 +42,15 @@ module _ (k : ℕ) (world : World) (is : IsWorldOf k world) (p : ℕ)
     (read : slot ≡ slice_index_or world.machines.items p slot) where
   -- the party's slot is what was read
   at : slice_index_or world.machines.items p None ≡ slot
-  at = slot-read world.machines.items p slot within read
+  at =
+      same_Some _ _
+      (sym (slice_get-get_or world.machines.items p None within)
+      ∙ slice_get-get_or world.machines.items p slot within)
+      ∙ sym read
+
+  -- the party runs a call exactly if its machine does
+  runs-so : runs p world.records.items ≡ slot_runs slot
+  runs-so = runs-slot k _ _ _ _ is p within slot at
 
   -- what is written keeps the world, and adds what the event gives
   happens-written : (new : World) (event : Event) (words : List ℕ) (m : Machine) (r : Record)
@@ -33,7 +63,7 @@ module _ (k : ℕ) (world : World) (is : IsWorldOf k world) (p : ℕ)
     keeps = rw (writes.start, writes.now, writes.machines, writes.records) keeps;
     start = writes.start;
     parties = ap length writes.machines ∙ length-set world.machines.items p _;
-    grows = grows-one _ _ _ _ r writes.records gives;
+    grows = record { added = r ∷ []; same = writes.records; gives = gives };
   }
 
   -- a party that runs a call begins none
@@ -42,7 +72,9 @@ module _ (k : ℕ) (world : World) (is : IsWorldOf k world) (p : ℕ)
     keeps = is;
     start = refl;
     parties = refl;
-    grows = grows-none _ _ _ (gives-busy k world is p within slot at call running);
+    grows =
+        grows-none (length world.machines.items) (Begin p call) world.records.items
+        (inr (record { busy = λ _. runs-so ∙ running; same = refl }));
   }
 
   -- a party that runs no call begins one
@@ -57,7 +89,7 @@ module _ (k : ℕ) (world : World) (is : IsWorldOf k world) (p : ℕ)
       happens-written new (Begin p call) world.words.items m (Began p call)
       (record { start = start; now = words; machines = machines; records = more })
       (begin_keeps k _ _ _ _ is p within call m count all (ap slot_runs at ∙ idle) stands)
-      (gives-begun k world is p within slot at call idle)
+      (inl (record { within = within; idle = runs-so ∙ idle; same = refl }))
 
   -- a party that has a machine
   module _ (m : Machine) (here : slot ≡ Some m) where
@@ -75,8 +107,11 @@ module _ (k : ℕ) (world : World) (is : IsWorldOf k world) (p : ℕ)
       start = refl;
       parties = length-set world.machines.items p _;
       grows =
-          grows-none _ _ _
-          (gives-idle k world is p within slot at given (ap slot_runs here ∙ asks-over m over));
+          grows-none (length world.machines.items) (Go p given) world.records.items
+          (inr (record {
+            idle = runs-so ∙ ap slot_runs here ∙ asks-over m over;
+            same = refl;
+          }));
     }
 
     -- a machine that asks for a step makes it
@@ -102,5 +137,11 @@ module _ (k : ℕ) (world : World) (is : IsWorldOf k world) (p : ℕ)
         })
         (go_keeps k _ _ _ _ is p within given word step m n (at ∙ here) right asked made.found
         made.fits further)
-        (gives-step k world is p within slot at given step word (end_of n)
-        (ap slot_runs here ∙ asks-going m step asked) made.found)
+        (inl (record {
+          running = runs-so ∙ ap slot_runs here ∙ asks-going m step asked;
+          step = step;
+          found = word;
+          ended = end_of n;
+          same = refl;
+          reads = λ i same. made.found ∙ ap (found_in world.words.items given) same;
+        }))

@@ -1,59 +1,34 @@
 -- What every interleaving of calls of any kind gives, and with it how growing courses end.
-use Rattle.std.proofs.Common.{◌/◌, ◌≡◌, Bool, List, inl, inr, true, ℕ}
-use Rattle.bloom_steps.proofs.Common.{Call, Insert, End, MadeBetween, CourseTells, EachStepOf, EndsWithInserts, EndsWithUnions, HasFinishedInsert, IsStepOf, Course, GainsOnce, IsFoundInOther, IsFinished, IsStepAt, goes_by_hash, plan_of, turns_none_off, Taken}
+use Rattle.std.proofs.Common.{◌/◌, ◌≡◌, Bool, inl, inr, true, ℕ, ◌↔◌, ◌⊎◌}
+use Rattle.bloom_steps.proofs.Common.{content, Call, Insert, CourseTells, EachStepOf, EndsWithInserts, HasFinishedInsert, Course, GainsOnce, IsFoundInOther, goes_by_hash, plan_of, turns_none_off}
 use Rattle.bloom_steps.specs.declared.steps.vocabulary.Step.TheVariants as step
 use Rattle.bloom_steps.proofs.RunLemmas.Growing.{Owners, ends}
-use Rattle.bloom_steps.proofs.RunLemmas.KindCounts.{balanced, balances, takes-none}
-use Rattle.bloom_steps.proofs.RunLemmas.KindSteps.{StepKind, kind-of, of-hash}
+use Rattle.bloom_steps.proofs.RunLemmas.KindSteps.{Finished, adds-or-loads, adds-or-takes, in-script}
 use Rattle.bloom_steps.proofs.RunLemmas.KindTakes.{loses-no-position, takes-what-is-there}
 use Rattle.bloom_steps.proofs.RunLemmas.Kinds.{Kind, contains, found, inserts}
-use Rattle.bloom_steps.proofs.RunLemmas.Scripted.{IsScripted, record-of, step-of}
-use Rattle.bloom_steps.proofs.RunLemmas.Taken.{gains_once}
-use Rattle.bloom_steps.proofs.StepLemmas.Plans.{hash-adds, hash-grows}
-
--- a call that passes one test passes another
-passed : {test other : Call → Bool} {run : Course} {m party : ℕ} (of : IsStepOf test run m party)
-    → other of.call ≡ true → IsStepOf other run m party
-passed of passes = record {
-  call = of.call;
-  passes = passes;
-  began = of.began;
-  last = of.last;
-  ended = of.ended;
-  finished = of.finished;
-  later = of.later;
-  upto = of.upto;
-}
+use Rattle.bloom_steps.proofs.RunLemmas.Scripted.{IsScripted, record-of}
+use Rattle.bloom_steps.proofs.RunLemmas.Taken.{gains_once, loses_nothing}
+use Rattle.bloom_steps.proofs.StepLemmas.Plans.{hash-grows}
 
 -- a course of calls of a kind
 module _ (kind : Kind) (run : Course) (course : IsScripted kind.Script run) where
-  -- a finished call, by its script
-  abbrev Finished : ℕ → Call → List Taken → Type 0
-  Finished party call s = (began : ℕ) × (last : ℕ) × (ended : End)
-      × IsFinished run party call began last ended × kind.Script call s
-      × MadeBetween run party began last s
-
-  -- each step is one of a finished call that clears nothing
-  owners : EachStepOf (λ call. turns_none_off (plan_of call)) run → Owners kind run Finished
-  owners each = record {
-    is = λ party call s (began, last, ended, fin, is, own). is;
-    members = λ party call s (began, last, ended, fin, is, own) i t g.
-        let at = record-of run party began last s own i t g in (at.m, at.is);
-    each = λ m party t g.
-        let of = each m party t.ended (record { step = t.step; found = t.found; here = g }) in
-        let (s, is, own) = course.calls party of.call of.began of.last of.ended of.finished in (
-          of.call,
-          s,
-          (of.began, of.last, of.ended, of.finished, is, own),
-          of.passes,
-          step-of run party of.began of.last s own m t of.later of.upto g,
-        );
-  }
-
-  -- in the end just the start, the inserts and what unions found are there
-  ends-with-unions : EndsWithUnions kind.Positions run
-  ends-with-unions each =
-      ends kind run course.bits Finished (owners each) (HasFinishedInsert kind.Positions run)
+  -- where each step is one of a finished call that clears nothing, just the start, the inserts and
+  -- what unions found are there in the end
+  ends-in : {test : Call → Bool} → EachStepOf test run
+      → ((call : Call) → test call ≡ true → turns_none_off (plan_of call) ≡ true)
+      → (p : ℕ) → (content run.words p ≡ true) ↔ ((content run.start p ≡ true)
+      ⊎ (HasFinishedInsert kind.Positions run p ⊎ IsFoundInOther run p))
+  ends-in each grows =
+      let owners : Owners kind run (Finished kind run course) = record {
+        is = λ party call s (began, last, ended, fin, is, own). is;
+        members = λ party call s (began, last, ended, fin, is, own) i t g.
+            let at = record-of run party began last s own i t g in (at.m, at.is);
+        each = λ m party t g.
+            let (call, s, of, passes, at) = in-script kind run course each m party t g in
+            (call, s, of, grows call passes, at);
+      } in
+      ends kind run course.bits (Finished kind run course) owners
+      (HasFinishedInsert kind.Positions run)
       (λ p (party, hash, s, (began, last, ended, fin, is, own), position). record {
         party = party;
         hash = hash;
@@ -73,17 +48,15 @@ module _ (kind : Kind) (run : Course) (course : IsScripted kind.Script run) wher
       → IsFoundInOther run p → ⊥
   none-found each p x =
       let did = step.Other (p / 64) in
-      let t : Taken = record { step = did; found = x.found; ended = x.ended } in
-      let of = each x.m x.party x.ended (record { step = did; found = x.found; here = x.reads }) in
-      of-hash (λ call. StepKind kind run course call did → ⊥) (λ hash (w, mask, is). cc)
-      (λ hash (i, is). cc) of.call of.passes
-      (kind-of kind run course (λ call. goes_by_hash (plan_of call)) x.m x.party t of x.reads)
+      elim (adds-or-loads kind run course each x.m x.party did x.found x.ended x.reads) [
+        | inl (w, mask, is) ↦ cc
+        | inr (i, is) ↦ cc
+      ]
 
   -- in the end just the start and the inserts are there
   ends-with-inserts : EndsWithInserts kind.Positions run
   ends-with-inserts each p =
-      let all = ends-with-unions (λ m party ended at.
-      let of = each m party ended at in passed of (hash-grows (plan_of of.call) of.passes)) p in (
+      let all = ends-in each (λ call. hash-grows (plan_of call)) p in (
         (λ on. elim (all.0 on) [
           | inl before ↦ inl before
           | inr y ↦ elim y [ inl i ↦ inr i | inr o ↦ absurd (none-found each p o) ]
@@ -94,10 +67,7 @@ module _ (kind : Kind) (run : Course) (course : IsScripted kind.Script run) wher
   -- each position is set once
   gains-each-once : EachStepOf (λ call. goes_by_hash (plan_of call)) run → GainsOnce run
   gains-each-once each =
-      let adds = λ (m : ℕ) (party : ℕ) (ended : End) (at : IsStepAt run.records m party ended).
-      let of = each m party ended at in
-      passed of (hash-adds of.call of.passes) in
-      gains_once run course.bits (balances kind run course adds) (takes-none kind run course each)
+      gains_once run course.bits course.finds course.within (adds-or-loads kind run course each)
       (λ p on. (ends-with-inserts each p).1 (inl on))
 
   -- what every interleaving gives
@@ -108,9 +78,11 @@ module _ (kind : Kind) (run : Course) (course : IsScripted kind.Script run) wher
     found = found kind run course;
     contains = contains kind run course;
     grows = ends-with-inserts;
-    unites = ends-with-unions;
+    unites = λ each. ends-in each (λ call passes. passes);
     gained = gains-each-once;
     kept = loses-no-position kind run course;
-    balanced = balanced kind run course;
+    balanced = λ each.
+        loses_nothing run course.bits course.finds course.within
+        (adds-or-takes kind run course each);
     taken = takes-what-is-there kind run course;
   }

@@ -1,11 +1,11 @@
 -- What the steps of finished calls are, for calls of any kind.
-use Rattle.std.proofs.Common.{◌≡◌, Bool, List, Some, false, refl, slice_get, true, ℕ}
-use Rattle.bloom_steps.proofs.Common.{both_ways, Call, Clear, Contains, Insert, Intersect, Union, Did, Step, IsStepOf, Course, adds_or_takes, goes_by_hash, plan_of, Taken}
+use Rattle.std.proofs.Common.{◌≡◌, Bool, List, Some, false, inl, inr, refl, slice_get, true, ℕ}
+use Rattle.bloom_steps.proofs.Common.{both_ways, Call, Contains, Insert, Did, End, EachStepOf, Course, IsFinished, MadeBetween, adds_or_takes, goes_by_hash, plan_of, Taken}
 use Rattle.bloom_steps.specs.declared.steps.vocabulary.Call.TheVariants.{Take}
-use Rattle.bloom_steps.specs.declared.steps.vocabulary.Step.TheVariants as step
-use Rattle.bloom_steps.proofs.RunLemmas.InsertSteps.{IsOr}
+use Rattle.bloom_steps.proofs.RunLemmas.Balances.{AddsOrLoads, AddsOrTakes}
 use Rattle.bloom_steps.proofs.RunLemmas.Kinds.{Kind}
-use Rattle.bloom_steps.proofs.RunLemmas.Scripted.{IsScripted, step-of}
+use Rattle.bloom_steps.proofs.RunLemmas.Scripted.{EachStep, IsScripted, step-of}
+use Rattle.bloom_steps.proofs.StepLemmas.Driving.{made}
 
 -- a call that goes by a hash is an insert or a look-up
 pub of-hash : (P : Call → Type 0) → ((hash : ℕ) → P (Insert hash))
@@ -24,28 +24,45 @@ of-adder P ins look takes call passes = absurd (both_ways false refl passes)
 
 -- a course of calls of a kind
 module _ (kind : Kind) (run : Course) (course : IsScripted kind.Script run) where
-  -- what a step of a finished call is
-  abbrev pub StepKind : Call → Step → Type 0
-  StepKind (Insert hash) did = IsOr did
-  StepKind (Contains hash) did = (i : ℕ) × (did ≡ step.Load i)
-  StepKind Clear did = Unit {0}
-  StepKind Union did = Unit {0}
-  StepKind Intersect did = Unit {0}
-  StepKind Take did = (i : ℕ) × (did ≡ step.Take i)
+  -- a finished call, by its script
+  abbrev pub Finished : ℕ → Call → List Taken → Type 0
+  Finished party call s = (began : ℕ) × (last : ℕ) × (ended : End)
+      × IsFinished run party call began last ended × kind.Script call s
+      × MadeBetween run party began last s
 
-  -- each step of a finished call is of its kind
-  pub kind-of : (test : Call → Bool) (m party : ℕ) (t : Taken) (of : IsStepOf test run m party)
+  -- each step is one of a finished call that passes the test
+  pub in-script : {test : Call → Bool} → EachStepOf test run → (m party : ℕ) (t : Taken)
       → slice_get run.records m ≡ Some (Did party t.step t.found t.ended)
-      → StepKind of.call t.step
-  kind-of test m party t of g =
-      let (s, is, own) =
-      course.calls party of.call of.began of.last of.ended of.finished in
-      let (i, got) = step-of run party of.began of.last s own m t of.later of.upto g in
-      by of.call s is i got
-    where
-      by : (call : Call) (s : List Taken) → kind.Script call s → (i : ℕ) → slice_get s i ≡ Some t
-          → StepKind call t.step
-      by (Insert hash) s is i got = (kind.inserts hash s is).masks i t got
-      by (Contains hash) s is i got = (_, (kind.look_ups hash s is).steps i t got)
-      by Take s is i got = (i, kind.takes s is i t got)
-      by call s is i got = tt
+      → (call : Call) × (s : List Taken) × Finished party call s × (test call ≡ true)
+      × ((i : ℕ) × (slice_get s i ≡ Some t))
+  in-script each m party t g =
+      let of = each m party t.ended (record { step = t.step; found = t.found; here = g }) in
+      let (s, is, own) = course.calls party of.call of.began of.last of.ended of.finished in (
+        of.call,
+        s,
+        (of.began, of.last, of.ended, of.finished, is, own),
+        of.passes,
+        step-of run party of.began of.last s own m t of.later of.upto g,
+      )
+
+  -- inserts and look-ups set bits or load words
+  pub adds-or-loads : EachStepOf (λ call. goes_by_hash (plan_of call)) run
+      → EachStep AddsOrLoads run
+  adds-or-loads each m party did found ended g =
+      let t = made did found ended in
+      let (call, s, (began, last, end, fin, is, own), passes, (i, got)) =
+      in-script each m party t g in
+      of-hash (λ call. kind.Script call s → AddsOrLoads did)
+      (λ hash is. inl ((kind.inserts hash s is).masks i t got))
+      (λ hash is. inr (_, (kind.look_ups hash s is).steps i t got)) call passes is
+
+  -- inserts, look-ups and takes set bits, load words or take them
+  pub adds-or-takes : EachStepOf adds_or_takes run → EachStep AddsOrTakes run
+  adds-or-takes each m party did found ended g =
+      let t = made did found ended in
+      let (call, s, (began, last, end, fin, is, own), passes, (i, got)) =
+      in-script each m party t g in
+      of-adder (λ call. kind.Script call s → AddsOrTakes did)
+      (λ hash is. inl (inl ((kind.inserts hash s is).masks i t got)))
+      (λ hash is. inl (inr (_, (kind.look_ups hash s is).steps i t got)))
+      (λ is. inr (i, kind.takes s is i t got)) call passes is

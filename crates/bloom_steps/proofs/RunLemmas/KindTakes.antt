@@ -1,13 +1,12 @@
 -- Takes in courses of calls of any kind: each finds what is there, and nothing is lost.
 use Rattle.std.proofs.Common.{if◌then◌else◌, ◌+◌, ◌-◌, ◌/◌, ◌<◌, ◌∙◌, ◌≡◌, ◌⊎◌, Bool, None, Some, ap, arith, eq-eqb, false, inl, inr, length, refl, slice_get, subst, suc, sym, true, unwrap_or, zero, ℕ}
-use Rattle.bloom_steps.proofs.Common.{eqb_tells, content, Record, Began, Did, EachStepOf, IsTakenSince, LosesNoPosition, TakesWhatIsThere, Course, adds_or_takes, moment, step_decides}
+use Rattle.bloom_steps.proofs.Common.{some_member, eqb_tells, content, Record, Began, Did, EachStepOf, IsTakenSince, LosesNoPosition, TakesWhatIsThere, Course, adds_or_takes, moment, step_decides}
 use Rattle.bloom_steps.specs.declared.steps.vocabulary.Step.TheVariants as step
 use Rattle.bloom_steps.proofs.RunLemmas.Bounds.{content-end, not_off}
 use Rattle.bloom_steps.proofs.RunLemmas.Changes.{DecidesOnly, TurnsOff, moment-more, or-decides_only}
-use Rattle.bloom_steps.proofs.RunLemmas.KindSteps.{StepKind, kind-of, of-adder}
+use Rattle.bloom_steps.proofs.RunLemmas.KindSteps.{adds-or-takes}
 use Rattle.bloom_steps.proofs.RunLemmas.Kinds.{Kind}
 use Rattle.bloom_steps.proofs.RunLemmas.Scripted.{IsScripted}
-use Rattle.bloom_steps.proofs.StepLemmas.Members.{some_member}
 
 -- a course of calls of a kind
 module _ (kind : Kind) (run : Course) (course : IsScripted kind.Script run) where
@@ -26,16 +25,17 @@ module _ (kind : Kind) (run : Course) (course : IsScripted kind.Script run) wher
   taken-by each m p (Began party call) g off =
       absurd (not_off run m p (Began party call) g (inl refl) off)
   taken-by each m p (Did party did found ended) g off =
-      let of = each m party ended (record { step = did; found = found; here = g }) in
       let r = Did party did found ended in
-      of-adder (λ call. StepKind kind run course call did → IsTakenSince run m p)
-      (λ hash (w, mask, is).
-      let only = subst (DecidesOnly (Some true) p) (sym is) (or-decides_only w mask p) in
-      absurd (not_off run m p r g only off))
-      (λ hash is. absurd (not_off run m p r g (inl (ap (λ x. step_decides x p) is.1)) off))
-      takes of.call of.passes
-      (kind-of kind run course adds_or_takes m party
-      (record { step = did; found = found; ended = ended }) of g)
+      elim (adds-or-takes kind run course each m party did found ended g) [
+        | inl adds ↦ elim adds [
+          | inl (w, mask, is) ↦
+              let only = subst (DecidesOnly (Some true) p) (sym is) (or-decides_only w mask p) in
+              absurd (not_off run m p r g only off)
+          | inr (i, is) ↦
+              absurd (not_off run m p r g (inl (ap (λ x. step_decides x p) is)) off)
+        ]
+        | inr took ↦ takes took
+      ]
     where
       takes : (i : ℕ) × (did ≡ step.Take i) → IsTakenSince run m p
       takes (i, is) = elim (eqb_tells (p / 64) i) [

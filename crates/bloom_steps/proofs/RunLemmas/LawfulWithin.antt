@@ -1,9 +1,10 @@
 -- In a lawful course a step that sets bits, or takes a word, does so in one of the words.
-use Rattle.std.proofs.Common.{◌*◌, ◌+◌, ◌/◌, ◌<◌, ◌∙◌, ◌≡◌, arith, inl, inr, length, subst, sym, true, false, ℕ}
-use Rattle.bloom_steps.proofs.Common.{both_ways, cases_lt, slice_get_within, place, And, Call, Insert, Intersect, Or, Union, Course, IsLawful, moment, plan_of, Taken}
+use Rattle.std.proofs.Common.{◌*◌, ◌+◌, ◌/◌, ◌<◌, ◌∙◌, ◌≡◌, ap, arith, inl, inr, length, subst, sym, true, false, ℕ}
+use Rattle.bloom_steps.proofs.Common.{both_ways, cases_lt, slice_get_within, place, And, Call, Insert, Intersect, Or, Union, Course, IsLawful, moment, plan_of, step_decides, Taken}
 use Rattle.bloom_steps.specs.declared.steps.vocabulary.Call.TheVariants.{Take}
 use Rattle.bloom_steps.proofs.RunLemmas.Bounds.{moment-past}
-use Rattle.bloom_steps.proofs.RunLemmas.Changes.{on-or}
+use Rattle.bloom_steps.proofs.RunLemmas.Changes.{or_at-own}
+use Rattle.bloom_steps.proofs.RunLemmas.InsertSteps.{Sets, set-after}
 use Rattle.bloom_steps.proofs.RunLemmas.PlacedSteps.{IsPlacedAt}
 use Rattle.bloom_steps.proofs.RunLemmas.RecordedCalls.{step_held}
 use Rattle.bloom_steps.proofs.RunLemmas.Scripted.{IsWithin, StepsWithin}
@@ -36,7 +37,8 @@ module _ (k : ℕ) (run : Course) (lawful : IsLawful k run) where
       by_call (Insert hash) j at =
           let q = place (64 * w) hash j in
           let t : Taken = record { step = did; found = found; ended = ended } in
-          subst (IsWithin w) (sym at.2) (set-below q (on-or k run lawful m party q t g at.2))
+          let sets : Sets did q = ap (λ x. step_decides x q) at.2 ∙ or_at-own q in
+          subst (IsWithin w) (sym at.2) (set-below q (set-after run m party t g q sets))
       by_call Union j (below, x, is) = elim (step-pair w Or true j x) [
         | inl load ↦ subst (IsWithin w) (sym (is ∙ load)) tt
         | inr write ↦

@@ -1,10 +1,9 @@
 -- Look-ups of any kind: each step loads the word of the next position, up to the first that is
 -- found clear. What such a look-up tells, in any interleaving.
 use Rattle.std.proofs.Common.{◌+◌, ◌<◌, ◌∙◌, ◌≡◌, ◌≤◌, Bool, List, Some, ap, arith, false, inl, inr, length, refl, slice_get, subst, sym, true, ℕ}
-use Rattle.bloom_steps.proofs.Common.{both_ways, eqb_tells, same_Some, slice_get_within, bit_is_on, Answer, Running, Did, Course, moment, AllButLast, Each, Last, Taken, load_at}
+use Rattle.bloom_steps.proofs.Common.{some_member, both_ways, eqb_tells, same_Some, slice_get_within, bit_is_on, Answer, Running, Did, Course, moment, AllButLast, Each, Last, Taken, load_at}
 use Rattle.bloom_steps.proofs.RunLemmas.Changes.{same-answer}
 use Rattle.bloom_steps.proofs.RunLemmas.Scripted.{FindsBits, FoundBits, OwnSteps}
-use Rattle.bloom_steps.proofs.StepLemmas.Members.{some_member}
 
 -- the steps of a look-up of k positions
 pub record LookSteps (k : ℕ) (at : ℕ → ℕ) (s : List Taken) : Type 0 where

@@ -1,7 +1,8 @@
 -- A step among a party's records goes on from its newest beginning.
-use Rattle.std.proofs.Common.{[], ◌++◌, ◌∙◌, ◌∷◌, ◌≡◌, ◌⊎◌, List, ap, append_assoc, inl, inr, refl, subst, sym, ℕ}
-use Rattle.bloom_steps.proofs.Common.{append-nil, Call, Record, Began, Did, IsScript, Taken, CallAfterCall, begun_call, did, no_call, whole_call}
-use Rattle.bloom_steps.proofs.RunLemmas.PartyRecords.{did-same, did_of-same}
+use Rattle.std.proofs.Common.{[], ◌++◌, ◌+◌, ◌∙◌, ◌∷◌, ◌≡◌, ◌≤◌, ◌⊎◌, List, Some, ap, append_assoc, arith, drop, inl, inr, length, slice_get, subst, suc, sym, take, ℕ}
+use Rattle.bloom_steps.proofs.Common.{member-seam, split-at, append-nil, slice_get_within, take-append-add, take-append-le, take-append_seam, Call, Record, Began, Did, IsBeginning, IsScript, Taken, CallAfterCall, call_records, did}
+use Rattle.bloom_steps.proofs.RunLemmas.PartyRecords.{did-length, did-same, did-take, did_of-same}
+use Rattle.bloom_steps.proofs.RunLemmas.RecordedCalls.{of_call, which_of}
 
 -- the call that a step goes on with, after these records of its party
 pub record GoesAfter (w k p : ℕ) (xs : List Record) (t : Taken) : Type 0 where
@@ -12,98 +13,55 @@ pub record GoesAfter (w k p : ℕ) (xs : List Record) (t : Taken) : Type 0 where
   pub same : xs ≡ earlier ++ Began p call ∷ did p s
   pub is : IsScript w k call (s ++ t ∷ rest)
 
--- where a record stands among the steps of a script
-record Inside (p : ℕ) (s : List Taken) (xs : List Record) (t : Taken) : Type 0 where
-  pub before : List Taken
-  pub after : List Taken
-  pub parts : s ≡ before ++ t ∷ after
-  pub same : xs ≡ did p before
+-- a script, or a beginning of one, goes on to a script
+goes_on : {w k : ℕ} {call : Call} {s : List Taken} {later : List Record}
+    → IsScript w k call s ⊎ (IsBeginning w k call s × (later ≡ []))
+    → (more : List Taken) × IsScript w k call (s ++ more)
+goes_on {w} {k} {call} {s} kind = elim kind [
+  | inl is ↦ ([], subst (IsScript w k call) (sym (append-nil s)) is)
+  | inr (begun, newest) ↦ (begun.next ∷ begun.rest, begun.script)
+]
 
--- the records after a script, and where they go on
-abbrev IsLater : ℕ → List Taken → List Record → List Record → List Record → Taken → Type 0
-IsLater p s later xs ys t =
-    (more : List Record) × (xs ≡ did p s ++ more)
-    × (later ≡ more ++ Did p t.step t.found t.ended ∷ ys)
-
--- a step behind the steps of a script is one of them, or stands later
-split-did : (p : ℕ) (s : List Taken) (later xs ys : List Record) (t : Taken)
-    → did p s ++ later ≡ xs ++ Did p t.step t.found t.ended ∷ ys
-    → Inside p s xs t ⊎ IsLater p s later xs ys t
-split-did p [] later xs ys t e = inr (xs, refl, e)
-split-did p (u ∷ s) later [] ys t e =
-    let first : Did p u.step u.found u.ended ≡ Did p t.step t.found t.ended = cc in
-    inl
-    (record {
-      before = [];
-      after = s;
-      parts = ap (λ v. v ∷ s) (did_of-same p p u t first);
-      same = refl;
-    })
-split-did p (u ∷ s) later (x ∷ xs) ys t e =
-    let head : Did p u.step u.found u.ended ≡ x = cc in
-    elim (split-did p s later xs ys t (cc)) [
-      | inl i ↦ inl (record {
-        before = u ∷ i.before;
-        after = i.after;
-        parts = ap (λ l. u ∷ l) i.parts;
-        same = ap (λ l. x ∷ l) i.same ∙ ap (λ y. y ∷ did p i.before) (sym head);
-      })
-      | inr m ↦ inr (m.0, ap (λ l. x ∷ l) m.1 ∙ ap (λ y. y ∷ (did p s ++ m.0)) (sym head), m.2)
+-- a step among a party's records goes on with the call that began last
+pub goes_after : (w k p : ℕ) (rs xs ys : List Record) (t : Taken) → CallAfterCall w k p rs
+    → rs ≡ xs ++ Did p t.step t.found t.ended ∷ ys → GoesAfter w k p xs t
+goes_after w k p rs xs ys t calls e =
+    let r = Did p t.step t.found t.ended in
+    let i = length xs in
+    let here : slice_get rs i ≡ Some r = ap (λ l. slice_get l i) e ∙ member-seam xs ys r in
+    let of = of_call w k p rs i calls (slice_get_within rs i r here) in
+    let own = call_records p of.call of.s ++ of.later in
+    elim (which_of w k p rs i r of here) [
+      | inl (first, is) ↦ absurd (cc)
+      | inr (j, u, place, got, is) ↦
+          let same : u ≡ t = did_of-same p p u t (sym is) in
+          let parts = split-at of.s j u got ∙ ap (λ v. take j of.s ++ v ∷ drop (suc j) of.s) same in
+          let (more, script) = goes_on of.kind in
+          let inside : j ≤ length (did p of.s) =
+          omega (arith, of.within, place, did-length p of.s) in
+          record {
+            earlier = of.earlier;
+            call = of.call;
+            s = take j of.s;
+            rest = drop (suc j) of.s ++ more;
+            same =
+                sym (take-append_seam xs (r ∷ ys)) ∙ ap (take i) (sym e ∙ of.all)
+                ∙ ap (λ n. take n (of.earlier ++ own))
+                (of.at ∙ ap (λ n. length of.earlier + n) place)
+                ∙ take-append-add of.earlier own (suc j)
+                ∙ ap (λ l. of.earlier ++ Began p of.call ∷ l)
+                (take-append-le j (did p of.s) of.later inside ∙ did-take p j of.s);
+            is =
+                subst (IsScript w k of.call)
+                (ap (λ l. l ++ more) parts
+                ∙ append_assoc (take j of.s) (t ∷ drop (suc j) of.s) more) script;
+          }
     ]
 
 -- no records have no member
 no_member : (xs ys : List Record) (r : Record) → [] ≡ xs ++ r ∷ ys → ⊥
 no_member [] ys r e = cc
 no_member (x ∷ xs) ys r e = cc
-
--- a step among a party's records goes on with the call that began last
-pub goes_after : (w k p : ℕ) (rs xs ys : List Record) (t : Taken) → CallAfterCall w k p rs
-    → rs ≡ xs ++ Did p t.step t.found t.ended ∷ ys → GoesAfter w k p xs t
-goes_after w k p _ xs ys t no_call e = absurd (no_member xs ys _ e)
-goes_after w k p _ [] ys t (begun_call call s b) e = absurd (cc)
-goes_after w k p _ (x ∷ xs) ys t (begun_call call s b) e =
-    let head : Began p call ≡ x = cc in
-    elim (split-did p s [] xs ys t (append-nil (did p s) ∙ cc)) [
-      | inl i ↦ record {
-        earlier = [];
-        call = call;
-        s = i.before;
-        rest = i.after ++ b.next ∷ b.rest;
-        same = ap (λ l. x ∷ l) i.same ∙ ap (λ y. y ∷ did p i.before) (sym head);
-        is =
-            subst (IsScript w k call)
-            (ap (λ l. l ++ b.next ∷ b.rest) i.parts
-            ∙ append_assoc i.before (t ∷ i.after) (b.next ∷ b.rest)) b.script;
-      }
-      | inr m ↦ absurd (no_member m.0 ys _ m.2)
-    ]
-goes_after w k p _ [] ys t (whole_call call s later is more) e = absurd (cc)
-goes_after w k p _ (x ∷ xs) ys t (whole_call call s later is more) e =
-    let head : Began p call ≡ x = cc in
-    elim (split-did p s later xs ys t (cc)) [
-      | inl i ↦ record {
-        earlier = [];
-        call = call;
-        s = i.before;
-        rest = i.after;
-        same = ap (λ l. x ∷ l) i.same ∙ ap (λ y. y ∷ did p i.before) (sym head);
-        is = subst (IsScript w k call) i.parts is;
-      }
-      | inr m ↦
-          let next = goes_after w k p later m.0 ys t more m.2 in
-          record {
-            earlier = Began p call ∷ (did p s ++ next.earlier);
-            call = next.call;
-            s = next.s;
-            rest = next.rest;
-            same =
-                ap (λ l. x ∷ l) m.1 ∙ ap (λ y. y ∷ (did p s ++ m.0)) (sym head)
-                ∙ ap (λ l. Began p call ∷ (did p s ++ l)) next.same
-                ∙ ap (λ l. Began p call ∷ l)
-                (sym (append_assoc (did p s) next.earlier (Began p next.call ∷ did p next.s)));
-            is = next.is;
-          }
-    ]
 
 -- no beginning stands among steps
 no_beginning : (p : ℕ) (s : List Taken) (xs ys : List Record) (call : Call)

@@ -1,5 +1,5 @@
 -- Calls made one at a time: the records are whole calls, one after the other.
-use Rattle.std.proofs.Common.{[], ◌++◌, ◌<◌, ◌∙◌, ◌∷◌, ◌≡◌, ◌≤◌, List, ap, arith, length, length-append, refl, subst, suc, sym, zero, ℕ}
+use Rattle.std.proofs.Common.{[], ◌++◌, ◌<◌, ◌∙◌, ◌∷◌, ◌≡◌, List, ap, arith, length, length-append, refl, subst, suc, sym, zero, ℕ}
 use Rattle.bloom_steps.proofs.Common.{append-nil, Call, Record, EveryCallEnded, OneAtATime, IsScript, Taken, Cut, MadeCall, cut, CallAfterCall, call_records, did, records_of}
 use Rattle.bloom_steps.proofs.RunLemmas.Fronts.{FirstWhole, ended_later, first_whole, one_later}
 
@@ -38,8 +38,8 @@ module _ (w k : ℕ) (r : Record) (rest : List Record) (first : FirstWhole w k (
   ended_after : EveryCallEnded (r ∷ rest) → EveryCallEnded first.after
   ended_after ended = ended_later whole first.after (subst EveryCallEnded first.same ended)
 
--- w words and k hashes, some of each
-module _ (w k : ℕ) (some_words : 1 ≤ w) (some_hashes : 1 ≤ k) where
+-- w words and k hashes
+module _ (w k : ℕ) where
   -- fewer records than a bound are whole calls, one after the other
   one_by_one_in : (n : ℕ) (rs : List Record) → length rs < n
       → ((q : ℕ) → CallAfterCall w k q (records_of q rs)) → OneAtATime rs
@@ -47,7 +47,7 @@ module _ (w k : ℕ) (some_words : 1 ≤ w) (some_hashes : 1 ≤ k) where
   one_by_one_in zero rs l calls one ended = absurd (omega arith)
   one_by_one_in (suc n) [] l calls one ended = ([], no_more)
   one_by_one_in (suc size) (r ∷ rest) l calls one ended =
-      let first = first_whole w k some_words some_hashes r rest calls one ended in
+      let first = first_whole w k r rest calls one ended in
       let fewer = shorter w k r rest first in
       let (made, more) =
       one_by_one_in size first.after (omega arith) first.calls (one_after w k r rest first one)

@@ -1,19 +1,12 @@
 -- The script that a finished call's own records make, in a lawful course.
-use Rattle.std.proofs.Common.{[], ◌++◌, ◌+◌, ◌-◌, ◌∙◌, ◌∷◌, ◌≡◌, ◌≤◌, Bool, List, Some, add-one, ap, arith, drop, inl, inr, length, refl, slice_get, suc, sym, take, zero, ℕ}
-use Rattle.bloom_steps.proofs.Common.{append-nil, drop-take, none-some, same_Some, Call, End, Record, Began, Did, Step, Other, Zero, MadeBetween, IsFinished, moment, IsBeginning, IsScript, Taken, Course, IsLawful, MayFind, did, records_of}
+use Rattle.std.proofs.Common.{◌++◌, ◌+◌, ◌-◌, ◌∙◌, ◌∷◌, ◌≡◌, ◌≤◌, Bool, List, Some, add-one, ap, arith, drop, inl, inr, length, refl, slice_get, suc, sym, take, ℕ}
+use Rattle.bloom_steps.proofs.Common.{split-at, append-nil, drop-take, Call, End, Record, Began, Did, Step, Other, Zero, MadeBetween, IsFinished, moment, IsBeginning, IsScript, Taken, Course, IsLawful, MayFind, did, records_of}
 use Rattle.bloom_steps.proofs.RunLemmas.LawfulWithin.{lawful-within}
 use Rattle.bloom_steps.proofs.RunLemmas.RunningCalls.{one_end-script}
 use Rattle.bloom_steps.proofs.RunLemmas.PartyRecords.{did-got, own_of_record, records_of-append, records_of-mine}
 use Rattle.bloom_steps.proofs.RunLemmas.CallRecords.{EndsAt, Segment, front_is, segment}
 use Rattle.bloom_steps.proofs.RunLemmas.Scripted.{FindsBits, FoundBits, IsScripted, member-drop}
 use Rattle.bloom_steps.proofs.StepLemmas.Whole.{beginning_runs, script_some}
-
--- records before a member, the member, and those after it
-split-at : (xs : List Record) (m : ℕ) (r : Record) → slice_get xs m ≡ Some r
-    → xs ≡ take m xs ++ r ∷ drop (suc m) xs
-split-at [] m r e = absurd (none-some r e)
-split-at (x ∷ xs) zero r e = ap (λ y. y ∷ xs) (same_Some _ _ e)
-split-at (x ∷ xs) (suc m) r e = ap (λ l. x ∷ l) (split-at xs m r e)
 
 -- a finished call of a lawful run of some words and hashes
 module _ (k : ℕ) (run : Course) (lawful : IsLawful k run) (some_words : 1 ≤ length run.start)

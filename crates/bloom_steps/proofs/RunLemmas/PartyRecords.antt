@@ -3,7 +3,7 @@ use Rattle.std.proofs.Common.{[], ◌++◌, ◌∙◌, ◌∷◌, ◌≡◌, ◌
 use Rattle.std.proofs.lemmas.List.{map-append, take-map}
 use Rattle.std.proofs.lemmas.List.Elements.{filter-append}
 use Rattle.std.proofs.lemmas.Option.{slice_get-map}
-use Rattle.bloom_steps.proofs.Common.{eqb_tells, append-nil, none-some, same_Some, Record, Began, Did, Taken, did, party_of, records_of}
+use Rattle.bloom_steps.proofs.Common.{eqb_tells, append-nil, length, length-map, none-some, same_Some, Record, Began, Did, Taken, did, party_of, records_of}
 
 -- a record of the party's own stays
 pub records_of-mine : (p : ℕ) (r : Record) (rs : List Record) → party_of r ≡ p
@@ -110,6 +110,10 @@ did_of-same p q t u e = ap (taken_of t) e
 -- the record of a step
 abbrev record_by : ℕ → Taken → Record
 record_by p t = Did p t.step t.found t.ended
+
+-- each step has a record
+pub did-length : (p : ℕ) (s : List Taken) → length (did p s) ≡ length s
+did-length p s = length-map s (record_by p)
 
 -- the records of steps, member by member
 pub did-get : (p : ℕ) (s : List Taken) (i : ℕ) (t : Taken) → slice_get s i ≡ Some t

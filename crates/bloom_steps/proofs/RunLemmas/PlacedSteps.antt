@@ -1,7 +1,6 @@
 -- The call that a record is of, and the place of a step in it.
 use Rattle.std.proofs.Common.{◌++◌, ◌<◌, ◌∷◌, ◌≡◌, ◌≤◌, ◌⊎◌, Bool, List, Some, arith, inl, inr, length, slice_get, true, ℕ}
-use Rattle.bloom_steps.proofs.Common.{slice_get_within, Call, Record, Began, Did, Step, LooksAt, Plan, most_steps, plan_of, HasCount, IsBeginning, IsScript, Taken, step_at}
-use Rattle.bloom_steps.proofs.StepLemmas.Members.{member-front}
+use Rattle.bloom_steps.proofs.Common.{member-front, slice_get_within, Call, Record, Began, Did, Step, LooksAt, Plan, most_steps, plan_of, HasCount, IsBeginning, IsScript, Taken, step_at}
 
 -- a record is of one of these steps
 abbrev pub IsOneOf : ℕ → List Taken → Record → Type 0

@@ -1,6 +1,6 @@
 -- The calls of a Bloom filter are of a kind: what their scripts do.
 use Rattle.std.proofs.Common.{◌%◌, ◌*◌, ◌/◌, ◌^◌, ◌∙◌, ◌≡◌, ◌≤◌, List, Some, ap, arith, inl, inr, length, slice_get, sym, true, ℕ}
-use Rattle.bloom_steps.proofs.Common.{none-some, slice_get_within, bit_is_on, IsPosition, are_in, place, are_in-off, place-position, Contains, Insert, IsCourseOf, CourseTells, Course, IsLawful, bits_of, IsScript, Taken, step_decides}
+use Rattle.bloom_steps.proofs.Common.{some_member, none-some, slice_get_within, bit_is_on, IsPosition, are_in, place, are_in-off, place-position, Contains, Insert, IsCourseOf, CourseTells, Course, IsLawful, bits_of, IsScript, Taken, step_decides}
 use Rattle.bloom_steps.proofs.RunLemmas.CarriedOut.{course_tells}
 use Rattle.bloom_steps.proofs.RunLemmas.Changes.{or_at-decides, or_at-own}
 use Rattle.bloom_steps.proofs.RunLemmas.CopySteps.{union-steps}
@@ -10,7 +10,6 @@ use Rattle.bloom_steps.proofs.RunLemmas.Kinds.{Kind}
 use Rattle.bloom_steps.proofs.RunLemmas.LookSteps.{LookSteps}
 use Rattle.bloom_steps.proofs.RunLemmas.OwnScripts.{scripted}
 use Rattle.bloom_steps.proofs.RunLemmas.Positions.{are_in-all}
-use Rattle.bloom_steps.proofs.StepLemmas.Members.{some_member}
 
 -- the script of a call on w words with k hashes
 module _ (w k hash : ℕ) (s : List Taken) where

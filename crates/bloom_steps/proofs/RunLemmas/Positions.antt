@@ -1,5 +1,5 @@
 -- The positions of a hash, place by place.
-use Rattle.std.proofs.Common.{◌&&◌, ◌<◌, ◌∙◌, ◌≡◌, Bool, ap, arith, false, refl, suc, sym, true, zero, ℕ}
+use Rattle.std.proofs.Common.{◌<◌, ◌≡◌, Bool, arith, false, refl, suc, sym, true, zero, ℕ}
 use Rattle.bloom_steps.proofs.Common.{and_from, are_in, place}
 
 -- where each place is in a set, all are
@@ -10,15 +10,6 @@ are_in-all n zero hash A all = refl
 are_in-all n (suc k) hash A all =
     and_from (are_in n k hash A) (A (place n hash k))
     (are_in-all n k hash A (λ i below. all i (omega (arith, below)))) (all k (omega arith))
-
--- a set that has the same bits has the same positions of a hash in it
-pub are_in-same : (n k hash : ℕ) (A B : ℕ → Bool) → ((p : ℕ) → A p ≡ B p)
-    → are_in n k hash A ≡ are_in n k hash B
-unfolding are_in
-are_in-same n zero hash A B same = refl
-are_in-same n (suc k) hash A B same =
-    ap (λ b. b && A (place n hash k)) (are_in-same n k hash A B same)
-    ∙ ap (λ b. are_in n k hash B && b) (same (place n hash k))
 
 -- truth values that are true together and false together are the same
 pub both_alike : (a b : Bool) → (a ≡ true → b ≡ true) → (a ≡ false → b ≡ false) → a ≡ b

@@ -1,6 +1,6 @@
 -- Whether a party runs a call: its newest record.
 use Rattle.bloom_steps.proofs.Common.{plan_of, Call, End, Answer, Done, Running, Record, Began, Did, Step, Machine, StandsAt, Each, IsBeginning, IsScript, Taken, did, last_leaves_running, leaves_running, records_of, runs}
-use Rattle.std.proofs.Common.{[], ◌++◌, ◌+◌, ◌<◌, ◌∙◌, ◌∷◌, ◌≡◌, ◌≢◌, ◌≤◌, Bool, List, ap, arith, false, length, not, refl, subst, suc, sym, true, ℕ}
+use Rattle.std.proofs.Common.{[], ◌++◌, ◌+◌, ◌<◌, ◌∙◌, ◌∷◌, ◌≡◌, ◌≢◌, ◌≤◌, ◌⊎◌, Bool, List, ap, arith, false, inl, inr, length, not, refl, subst, suc, sym, true, ℕ}
 use Rattle.bloom_parts.specs.Operations.{reply}
 use Rattle.bloom_steps.proofs.RunLemmas.PartyRecords.{records_of-append}
 use Rattle.bloom_steps.proofs.StepLemmas.Whole.{beginning_runs, end_after, last-not_running, last-of, script_some}
@@ -21,13 +21,19 @@ pub record OneEnd (s : List Taken) : Type 0 where
   pub running : Each s (λ i t. i + 1 < length s → t.ended ≡ Running)
   pub ended : Each s (λ i t. i + 1 ≡ length s → t.ended ≢ Running)
 
--- steps that have one end have one after the first step too
-pub one_end-later : (t u : Taken) (s : List Taken) → OneEnd (t ∷ (u ∷ s)) → OneEnd (u ∷ s)
-one_end-later t u s one = record {
-  some = omega arith;
-  running = λ i v g l. one.running (suc i) v g (omega arith);
-  ended = λ i v g l. one.ended (suc i) v g (omega arith);
-}
+-- the first of steps that have one end leaves the call running and the others have one end, or it
+-- is the only one
+pub one_end-first : (t : Taken) (s : List Taken) → OneEnd (t ∷ s)
+    → ((t.ended ≡ Running) × OneEnd s) ⊎ ((t.ended ≢ Running) × (s ≡ []))
+one_end-first t [] one = inr (one.ended 0 t refl refl, refl)
+one_end-first t (u ∷ s) one = inl (
+  one.running 0 t refl (omega arith),
+  record {
+    some = omega arith;
+    running = λ i v g l. one.running (suc i) v g (omega arith);
+    ended = λ i v g l. one.ended (suc i) v g (omega arith);
+  },
+)
 
 -- a whole script has one end
 pub one_end-script : (w k : ℕ) (call : Call) (s : List Taken) → 1 ≤ length s → IsScript w k call s

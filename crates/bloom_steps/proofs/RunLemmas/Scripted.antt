@@ -1,10 +1,9 @@
 -- Courses whose finished calls made scripts, of whatever kind: what each step found, and the steps
 -- of each finished call.
 use Rattle.std.proofs.Common.{◌+◌, ◌-◌, ◌/◌, ◌<◌, ◌∙◌, ◌≡◌, ◌≤◌, List, Some, ap, arith, drop, inl, inr, length, refl, slice_get, suc, sym, take, zero, ℕ, [], ◌∷◌, Bool}
-use Rattle.bloom_steps.proofs.Common.{eqb_tells, slice_get_within, bit_is_on, Call, End, Running, Did, Step, And, Load, Or, Other, Zero, MadeBetween, Course, BitsTell, IsFinished, moment, AllButLast, Taken}
+use Rattle.bloom_steps.proofs.Common.{member-take, member_of_take, eqb_tells, slice_get_within, bit_is_on, Call, End, Running, Did, Step, And, Load, Or, Other, Zero, MadeBetween, Course, BitsTell, IsFinished, moment, AllButLast, Taken}
 use Rattle.bloom_steps.specs.declared.steps.vocabulary.Step.TheVariants.{Take}
 use Rattle.bloom_steps.proofs.RunLemmas.PartyRecords.{did-get, did-got, own_of_record, record_of_own}
-use Rattle.bloom_steps.proofs.StepLemmas.Members.{member-take, member_of_take}
 
 -- a word that was found has the bits of a set, where its step reads a word of the filter
 abbrev pub FoundBits : (ℕ → Bool) → Step → ℕ → Type 0
@@ -30,11 +29,14 @@ IsWithin w (Zero i) = Unit {0}
 IsWithin w (Other i) = Unit {0}
 IsWithin w (Take i) = i < w
 
+-- each step of a course has a property
+abbrev pub EachStep : (Step → Type 0) → Course → Type 0
+EachStep P run = (m party : ℕ) (step : Step) (found : ℕ) (ended : End)
+    → slice_get run.records m ≡ Some (Did party step found ended) → P step
+
 -- each step that sets bits, or takes a word, does so in one of the words
 abbrev pub StepsWithin : Course → Type 0
-StepsWithin run = (m party : ℕ) (step : Step) (found : ℕ) (ended : End)
-    → slice_get run.records m ≡ Some (Did party step found ended)
-    → IsWithin (length run.start) step
+StepsWithin run = EachStep (IsWithin (length run.start)) run
 
 -- a course whose finished calls each made the steps of one of the call's scripts
 pub record IsScripted (Script : Call → List Taken → Type 0) (run : Course) : Type 0 where

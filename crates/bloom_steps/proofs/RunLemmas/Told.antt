@@ -1,10 +1,10 @@
 -- What a finished run tells: all that is promised of its course.
-use Rattle.std.proofs.Common.{[], ◌≡◌, ◌≤◌, List, Ok, length, subst, sym, take_all, ℕ}
-use Rattle.bloom_steps.proofs.Common.{IsOkUnless, AreWords, IsPosition, are_in, World, Event, EndsWithAll, Course, Follows, FollowsFrom, IsLawful, ContainsTell, CountsGains, FindsInserted, InsertsTell, TakesLoseNothing, bits_of, ActsAsCommands}
+use Rattle.std.proofs.Common.{[], ◌≡◌, ◌≤◌, List, Ok, length, subst, sym, take_all, ℕ, None, Option}
+use Rattle.bloom_steps.proofs.Common.{IsOkUnless, AreWords, IsPosition, are_in, World, Event, EndsWithAll, Course, Follows, FollowsFrom, IsLawful, ContainsTell, CountsGains, FindsInserted, InsertsTell, TakesLoseNothing, bits_of, ActsAsCommands, Machine, IsWorld, records_of, slice_index_or}
 use Rattle.bloom_parts.specs.declared.error.FilterError.TheVariants.{Memory}
 use Rattle.bloom_steps.proofs.RunLemmas.CourseLaws.{course_law}
 use Rattle.bloom_steps.proofs.RunLemmas.Follows.{HasRun}
-use Rattle.bloom_steps.proofs.RunLemmas.Lawful.{lawful_world}
+use Rattle.bloom_steps.proofs.RunLemmas.PartyCalls.{calls-party}
 
 -- the clauses of a run that wasn't refused
 abbrev pub TellsAll : ℕ → ℕ → List ℕ → List Event → Course → Type 0
@@ -25,6 +25,19 @@ TellsAll k parties words schedule run = record {
 abbrev pub course_of : World → Course
 course_of now =
     record { start = now.start.items; records = now.records.items; words = now.words.items }
+
+-- after the last event the course is lawful
+lawful_world : (k : ℕ) (run : Course) (machines : List (Option Machine))
+    → IsWorld k run.start run.words machines run.records → AreWords run.words → IsLawful k run
+lawful_world k run machines world fit = record {
+  finds = world.finds;
+  calls = λ p.
+      calls-party (length run.start) k p (slice_index_or machines p None) (records_of p run.records)
+      (world.parties p);
+  count = world.count;
+  bits = world.bits;
+  fit = fit;
+}
 
 -- a run after its last event
 module _ (k parties : ℕ) (words : List ℕ) (schedule : List Event) (i : ℕ) (now : World)

@@ -1,28 +1,22 @@
 -- What a step finds, and how it ends its call, is one.
-use Rattle.std.proofs.Common.{[], ◌%◌, ◌*◌, ◌++◌, ◌+◌, ◌/◌, ◌<◌, ◌^◌, ◌∙◌, ◌∷◌, ◌≡◌, Bool, List, ap, arith, false, inl, inr, length, length-append, nat_eq, refl, suc, sym, true, ℕ}
-use Rattle.bloom_steps.proofs.Common.{both_ways, bit_at, bit_is_on, place, Call, Answer, Step, Other, Zero, LooksAt, Plan, TurnsOn, plan_of, Any, IsLastEnd, IsScript, Taken, Fulfils, nat_tests, IsWordOf, MayFind, word_index}
+use Rattle.std.proofs.Common.{[], ◌%◌, ◌*◌, ◌++◌, ◌+◌, ◌/◌, ◌<◌, ◌∙◌, ◌∷◌, ◌≡◌, Bool, List, ap, arith, false, inl, inr, length, length-append, nat_eq, refl, suc, sym, true, ℕ}
+use Rattle.bloom_steps.proofs.Common.{member-front, member-seam, member_of_more, both_ways, bit_at, bit_is_on, place, Call, Answer, Step, Other, Zero, LooksAt, Plan, TurnsOn, plan_of, Any, IsLastEnd, IsScript, Taken, Fulfils, nat_tests, IsWordOf, MayFind, word_index}
 use Rattle.std.proofs.lemmas.Nat.Bits.{bit_at-lt, same_from_bits_below}
 use Rattle.bloom_steps.proofs.StepLemmas.Growing.{length-more}
-use Rattle.bloom_steps.proofs.StepLemmas.Members.{member-front, member-seam, member_of_more}
 
 -- digits that are 1 together are the same
 digit-same : (a b : ℕ) → a < 2 → b < 2 → nat_eq a 1 ≡ nat_eq b 1 → a ≡ b
 digit-same a b l m e = grind (arith, nat_tests)
 
--- words of 64 bits with the same bits are the same
-word-same : (a b i : ℕ) → a < 2 ^ 64 → b < 2 ^ 64
-    → ((p : ℕ) → p / 64 ≡ i → bit_is_on a p ≡ bit_is_on b p) → a ≡ b
-word-same a b i f g all = same_from_bits_below 64 a b f g (λ j l.
-    let low : (64 * i + j) % 64 ≡ j = omega arith in
-    digit-same (bit_at a j) (bit_at b j) (bit_at-lt a j) (bit_at-lt b j)
-    (ap (λ x.
-    nat_eq (bit_at a x) 1) (sym low) ∙ all (64 * i + j) (omega arith) ∙ ap (λ x. nat_eq
-    (bit_at b x) 1) low))
-
 -- a set has one word at an index
 word_there-same : (A : ℕ → Bool) (i a b : ℕ) → IsWordOf A i a → IsWordOf A i b → a ≡ b
-word_there-same A i a b f g =
-    word-same a b i f.fits g.fits (λ p at. f.bits p at ∙ sym (g.bits p at))
+word_there-same A i a b f g = same_from_bits_below 64 a b f.fits g.fits (λ j l.
+    let p = 64 * i + j in
+    let low : p % 64 ≡ j = omega arith in
+    let here : p / 64 ≡ i = omega arith in
+    digit-same (bit_at a j) (bit_at b j) (bit_at-lt a j) (bit_at-lt b j)
+    (ap (λ x. nat_eq (bit_at a x) 1) (sym low) ∙ f.bits p here ∙ sym (g.bits p here)
+    ∙ ap (λ x. nat_eq (bit_at b x) 1) low))
 
 -- what is found is one, where another filter's word is given
 pub found-same : (A : ℕ → Bool) (given : ℕ) (step : Step) (a b : ℕ) → MayFind A step a

@@ -1,10 +1,29 @@
 -- What a run keeps, event by event.
-use Rattle.std.proofs.Common.{[], ◌++◌, ◌<◌, ◌^◌, ◌∙◌, ◌∷◌, ◌≡◌, Bool, List, None, Option, Some, ap, arith, false, inl, inr, length, refl, slice_index, slice_set, subst, sym, take, unwrap_or, ℕ}
-use Rattle.bloom_steps.proofs.Common.{take-append_seam, set-get_or, take-append-le, slice_index_or, bit_is_on, content, Call, End, Record, Began, Did, Step, Other, Zero, Machine, StandsAt, asks, end_of, found_in, words_after_step, after_records, step_decides, word_index, FindsWhatIsThere, IsWordOf, MayFind, records_of, runs, AsksRight, StandsFurther, HasCalled, IsWorld, PartyAt, slot_runs}
+use Rattle.std.proofs.Common.{[], ◌++◌, ◌<◌, ◌^◌, ◌∙◌, ◌∷◌, ◌≡◌, ◌≤◌, Bool, List, None, Option, Some, ap, arith, false, inl, inr, length, refl, slice_index, slice_set, subst, sym, take, unwrap_or, ℕ}
+use Rattle.bloom_steps.proofs.Common.{member_of_more, take-append_seam, set-get_or, take-append-le, none-some, slice_index_or, bit_is_on, content, Call, End, Record, Began, Did, Step, Other, Zero, Machine, StandsAt, asks, end_of, found_in, words_after_step, after_records, step_decides, word_index, FindsWhatIsThere, IsWordOf, MayFind, records_of, runs, AsksRight, StandsFurther, HasCalled, IsWorld, PartyAt, slot_runs}
 use Rattle.bloom_steps.proofs.RunLemmas.PartyCalls.{parties-more, runs-party, step-party, step-within, whole-party}
+use Rattle.bloom_steps.proofs.RunLemmas.PartyRecords.{records_of-none}
 use Rattle.bloom_steps.proofs.StepLemmas.Deciding.{records-more}
-use Rattle.bloom_steps.proofs.StepLemmas.Members.{member_of_more}
 use Rattle.bloom_steps.proofs.StepLemmas.Writing.{content-step, content-word, length-step}
+
+-- the world before the first event
+pub first_world : (k : ℕ) (start words : List ℕ) (machines : List (Option Machine))
+    → 1 ≤ length start
+    → length start < 2 ^ 58 → 1 ≤ k → words ≡ start
+    → ((p : ℕ) → slice_index_or machines p None ≡ None)
+    → IsWorld k start words machines []
+first_world k start words machines some few hashes same none = record {
+  some_words = some;
+  few_words = few;
+  some_hashes = hashes;
+  finds = λ m party step found e g. absurd (none-some _ g);
+  count = ap length same;
+  bits = λ p. ap (λ l. content l p) same;
+  parties =
+      λ p.
+      subst (λ o. PartyAt (length start) k p o (records_of p [])) (sym (none p))
+      (records_of-none p);
+}
 
 -- records find what is there, also with one more that does
 finds-more : (A : ℕ → Bool) (rs : List Record) (r : Record) → FindsWhatIsThere A rs

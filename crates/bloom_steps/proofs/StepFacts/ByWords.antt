@@ -1,7 +1,7 @@
 -- What is a script of an insert by words, and steps near one that are none. The set has the
 -- positions 0 and 1 in its first word, and 64 in its second.
 use Rattle.std.proofs.Common.{◌/◌, ◌<◌, ◌≡◌, ◌∷◌, [], Bool, List, Some, ap, arith, false, lit<, refl, slice_get, subst, suc, sym, true, zero, ℕ}
-use Rattle.bloom_steps.proofs.Common.{both_ways, none-some, same_Some, content, Answer, Running, Or, Step, DrivesByWords, Lacks, SetsByWords, SetsItsPart, Any, Taken, word_index}
+use Rattle.bloom_steps.proofs.Common.{both_ways, same_Some, slice_get_within, content, Answer, Running, Or, Step, DrivesByWords, Lacks, SetsByWords, SetsItsPart, Any, Taken, word_index}
 use Rattle.bloom_steps.proofs.StepFacts.Members.{each-member, took}
 use Rattle.bloom_steps.proofs.StepLemmas.MaskSteps.{its-part, masks-bound}
 
@@ -69,12 +69,8 @@ is_script = (
         let first = ap (λ (x : Taken). word_index x.step) (same_Some _ _ got) in
         let second = ap (λ (x : Taken). word_index x.step) (same_Some _ _ here) in
         omega (arith, first, second)
-    rises zero zero t u less got here = absurd (omega (arith, less))
-    rises zero (suc (suc j)) t u less got here = absurd (none-some u here)
-    rises (suc zero) (suc zero) t u less got here = absurd (omega (arith, less))
-    rises (suc zero) zero t u less got here = absurd (omega (arith, less))
-    rises (suc zero) (suc (suc j)) t u less got here = absurd (none-some u here)
-    rises (suc (suc i)) j t u less got here = absurd (none-some t got)
+    rises i j t u less got here =
+        absurd (omega (arith, less, slice_get_within found_one j u here))
 
 -- some step of the two found a position clear
 some-lacks : Any found_one (λ i t. Lacks A t)

@@ -1,9 +1,8 @@
 -- A call that goes on can be brought to its end, so its steps so far are a beginning.
 use Rattle.std.proofs.Common.{[], ◌*◌, ◌++◌, ◌+◌, ◌-◌, ◌∷◌, ◌≡◌, ◌⊎◌, List, append_assoc, arith, false, inl, inr, length, refl, subst, suc, zero, ℕ}
-use Rattle.bloom_steps.proofs.Common.{bit_is_on, place, bit_is_on-zero, Call, End, Answer, Done, Running, Step, LooksAt, Plan, TurnsOn, plan_of, GoesOn, most_steps, IsBeginning, Taken, Fulfils, last_found, step_at}
+use Rattle.bloom_steps.proofs.Common.{member-seam, bit_is_on, place, bit_is_on-zero, Call, End, Answer, Done, Running, Step, LooksAt, Plan, TurnsOn, plan_of, GoesOn, most_steps, IsBeginning, Taken, Fulfils, last_found, step_at}
 use Rattle.bloom_steps.proofs.StepLemmas.Finding.{ends-off}
 use Rattle.bloom_steps.proofs.StepLemmas.Growing.{EndsNext, FitsNext, KeepsOnAt, goes_on-more, length-more, script-more}
-use Rattle.bloom_steps.proofs.StepLemmas.Members.{member-seam}
 
 -- steps that can be brought to an end
 record CanEnd (w k : ℕ) (plan : Plan) (s : List Taken) : Type 0 where

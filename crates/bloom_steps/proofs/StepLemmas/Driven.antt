@@ -3,7 +3,7 @@ use Rattle.std.proofs.Common.{[], ◌*◌, ◌/◌, ◌%◌, ◌^◌, ◌++◌, 
 use Rattle.bloom_steps.proofs.Common.{both_ways, bit_at, none-some, IsAt, chain, bit_is_on, index_of, place, End, Running, Done, Answer, Step, Or, Load, Other, EachPair, EachWord, LooksAt, TurnsOn, Any, DrivesPlan, Taken, or_at, load_at}
 use Rattle.bloom_parts.specs.declared.hasher.chain.DoubleHasher.{DoubleHasher}
 use Rattle.bloom_steps.proofs.StepLemmas.Driving.{HasGone, KeepsNothing, gone-next, gone-none, linked-more, made}
-use Rattle.bloom_steps.proofs.StepLemmas.Finding.{all_on-more}
+use Rattle.bloom_steps.proofs.StepLemmas.Finding.{none-more}
 use Rattle.bloom_steps.proofs.StepLemmas.Growing.{FitsNext, goes_on-more, last_found-more, length-more, script-more}
 use Rattle.bloom_steps.proofs.StepLemmas.Going.{step-even, step-odd}
 use Rattle.bloom_steps.proofs.StepLemmas.Replying.{answer_of-more}
@@ -64,11 +64,12 @@ module _ {S : Type 0} (count : S → ℕ) (moved : S → Step → ℕ → S → 
       let fits : Or word mask ≡ or_at (place (64 * w) hash (length g.taken)) =
       ap (λ x. Or x mask) (at.0) ∙ ap (Or (p / 64)) (is_mask ∙ ap (λ b. 2 ^ b) (at.1))
       ∙ ap (λ j. or_at (place (64 * w) hash j)) (sym turns) in
-      let tells = λ (e : End). all_on-more g.taken (made (Or word mask) found e)
-      (λ j t. bit_is_on t.found (place (64 * w) hash j)) all (all && on)
-      g.keeps
-      (ap (λ b. all && b) (is_on ∙ bit-at p bit found (at.1)
-      ∙ ap (λ j. bit_is_on found (place (64 * w) hash j)) (sym turns))) in
+      let here : on ≡ bit_is_on found (place (64 * w) hash (length g.taken)) =
+      is_on ∙ bit-at p bit found (at.1)
+      ∙ ap (λ j. bit_is_on found (place (64 * w) hash j)) (sym turns) in
+      let tells = λ (e : End). none-more g.taken (made (Or word mask) found e)
+      (λ j t. bit_is_on t.found (place (64 * w) hash j) ≡ false) all on g.keeps
+      ((λ off. sym here ∙ off), (λ off. here ∙ off)) in
       record {
         stands = stands;
         gone =

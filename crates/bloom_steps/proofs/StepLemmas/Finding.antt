@@ -1,7 +1,6 @@
 -- What some steps found, and one step more.
-use Rattle.std.proofs.Common.{[], ◌&&◌, ◌*◌, ◌++◌, ◌↔◌, ◌∙◌, ◌∷◌, ◌≡◌, ◌⊎◌, Bool, List, Some, ap, false, inl, inr, length, refl, slice_get, subst, true, ℕ}
-use Rattle.bloom_steps.proofs.Common.{both_ways, bit_is_on, place, Answer, TurnsOn, Any, IsLastEnd, Taken}
-use Rattle.bloom_steps.proofs.StepLemmas.Members.{member-front, member-seam, member_of_more}
+use Rattle.std.proofs.Common.{[], ◌&&◌, ◌*◌, ◌++◌, ◌↔◌, ◌∙◌, ◌∷◌, ◌≡◌, ◌⊎◌, Bool, List, Some, ap, false, inl, inr, length, refl, slice_get, subst, sym, true, ℕ}
+use Rattle.bloom_steps.proofs.Common.{member-front, member-seam, member_of_more, and_right, bit_is_on, place, Answer, TurnsOn, Any, IsLastEnd, Taken}
 
 -- what some step has, some of more have
 any_front : (s : List Taken) (t : Taken) (P : ℕ → Taken → Type 0) → Any s P → Any (s ++ t ∷ []) P
@@ -27,30 +26,18 @@ pub ends-off : (w hash : ℕ) (s : List Taken) (i : ℕ) (t : Taken) → slice_g
     → IsLastEnd w (TurnsOn hash) s (Answer false)
 ends-off w hash s i t here off = (false, refl, ((λ _. (i, t, here, off)), (λ _. refl)))
 
--- whether all bits were set, after one more
-pub all_on-more : (s : List Taken) (t : Taken) (f : ℕ → Taken → Bool) (before after : Bool)
-    → ((before ≡ false) ↔ Any s (λ i t. f i t ≡ false)) → after ≡ (before && f (length s) t)
-    → (after ≡ false) ↔ Any (s ++ t ∷ []) (λ i t. f i t ≡ false)
-all_on-more s t f before after is e = go before (f (length s) t) refl refl
+-- whether no step has something, after one more
+pub none-more : (s : List Taken) (t : Taken) (P : ℕ → Taken → Type 0) (before on : Bool)
+    → ((before ≡ false) ↔ Any s P) → ((on ≡ false) ↔ P (length s) t)
+    → ((before && on) ≡ false) ↔ Any (s ++ t ∷ []) P
+none-more s t P before on is here = (
+  (λ off. go before refl off),
+  (λ some. elim (any_split s t P some) [
+    | inl earlier ↦ ap (λ b. b && on) (is.1 earlier)
+    | inr last ↦ and_right before on (here.1 last)
+  ]),
+)
   where
-    P : ℕ → Taken → Type 0
-    P i u = f i u ≡ false
-
-    go : (a b : Bool) → before ≡ a → f (length s) t ≡ b
-        → (after ≡ false) ↔ Any (s ++ t ∷ []) (λ i t. f i t ≡ false)
-    go false b was here = (
-      (λ _. any_front s t (λ i t. f i t ≡ false) (is.0 was)),
-      (λ _. e ∙ ap (λ x. x && f (length s) t) was),
-    )
-    go true true was here =
-        let on : after ≡ true = e ∙ ap (λ x. x && f (length s) t) was ∙ here in (
-          (λ off. absurd (both_ways after off on)),
-          (λ a. elim (any_split s t (λ i t. f i t ≡ false) a) [
-            | inl earlier ↦ absurd (both_ways before (is.1 earlier) was)
-            | inr last ↦ absurd (both_ways (f (length s) t) last here)
-          ]),
-        )
-    go true false was here = (
-      (λ _. any_last s t (λ i t. f i t ≡ false) here),
-      (λ _. e ∙ ap (λ x. x && f (length s) t) was ∙ here),
-    )
+    go : (b : Bool) → before ≡ b → (before && on) ≡ false → Any (s ++ t ∷ []) P
+    go false was off = any_front s t P (is.0 was)
+    go true was off = any_last s t P (here.0 (sym (ap (λ b. b && on) was) ∙ off))

@@ -1,8 +1,7 @@
 -- The step with which a call goes on, and that there is one alone.
 use Rattle.std.proofs.Common.{Bool, ◌%◌, ◌*◌, ◌++◌, ◌+◌, ◌/◌, ◌==◌, ◌∙◌, ◌∷◌, ◌≡◌, ◌⊎◌, List, Some, ap, arith, if◌then◌else◌, inl, inr, length, refl, slice_get, suc, sym, take, zero, ℕ}
-use Rattle.bloom_steps.proofs.Common.{take-append_seam, Call, Step, Other, EachPair, plan_of, AreStepsOf, IsNext, IsScript, Taken, last_found, step_at}
+use Rattle.bloom_steps.proofs.Common.{member-seam, take-more, take-append_seam, Call, Step, Other, EachPair, plan_of, AreStepsOf, IsNext, IsScript, Taken, last_found, step_at}
 use Rattle.bloom_steps.proofs.StepLemmas.Growing.{FitsNext, last_found-more}
-use Rattle.bloom_steps.proofs.StepLemmas.Members.{member-seam, take-more}
 
 -- whatever script goes on after a beginning goes on with a step that fits
 pub script_next : (w k : ℕ) (call : Call) (s rest : List Taken) (t : Taken)

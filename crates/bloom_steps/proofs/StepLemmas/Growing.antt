@@ -1,7 +1,6 @@
 -- Steps of a plan that grow by one at the end.
 use Rattle.std.proofs.Common.{[], ◌*◌, ◌++◌, ◌+◌, ◌<◌, ◌∙◌, ◌∷◌, ◌≡◌, ◌⊎◌, List, ap, arith, false, inl, inr, length, length-append, refl, subst, sym, take, true, ℕ}
-use Rattle.bloom_steps.proofs.Common.{take-append_seam, take-append-le, bit_is_on, place, EachPair, EachWord, LooksAt, Plan, TurnsOn, Answer, Done, Running, Step, GoesOn, KeepsOn, most_steps, AllButLast, AreStepsOf, Each, HasCount, IsLastEnd, Last, StopsRight, Taken, Fulfils, last_found, step_at}
-use Rattle.bloom_steps.proofs.StepLemmas.Members.{member_of_more}
+use Rattle.bloom_steps.proofs.Common.{member_of_more, take-append_seam, take-append-le, bit_is_on, place, EachPair, EachWord, LooksAt, Plan, TurnsOn, Answer, Done, Running, Step, GoesOn, KeepsOn, most_steps, AllButLast, AreStepsOf, Each, HasCount, IsLastEnd, Last, StopsRight, Taken, Fulfils, last_found, step_at}
 
 -- a step that fits a plan after these steps
 abbrev pub FitsNext : ℕ → Plan → List Taken → Step → Type 0

@@ -1,10 +1,10 @@
 -- Masks set in a store, each by one step.
 use Rattle.std.proofs.Common.{[], ◌&&◌, ◌++◌, ◌+◌, ◌/◌, ◌<◌, ◌^◌, ◌∙◌, ◌∷◌, ◌≡◌, ◌≢◌, ◌≤◌, ◌↔◌, Bool, List, Some, ap, arith, false, inl, inr, length, refl, slice_get, slice_index, subst, sym, true, ℕ}
 use Rattle.std.proofs.Math.Bool.{and-true}
-use Rattle.bloom_steps.proofs.Common.{and_right, both_ways, cases_lt, none-some, slice_get_within, bit_is_on, content, bit_is_on-zero, End, Answer, Running, Step, Or, DrivesByWords, HasAll, Lacks, SetsItsPart, SetsMask, AllButLast, Any, Each, Last, Linked, Taken, word_index}
+use Rattle.bloom_steps.proofs.Common.{member-front, member-seam, member_of_more, both_ways, cases_lt, none-some, slice_get_within, bit_is_on, content, bit_is_on-zero, End, Answer, Running, Step, Or, DrivesByWords, HasAll, Lacks, SetsItsPart, SetsMask, AllButLast, Any, Each, Last, Linked, Taken, word_index}
 use Rattle.bloom_steps.proofs.StepLemmas.Driving.{linked-more, made}
+use Rattle.bloom_steps.proofs.StepLemmas.Finding.{none-more}
 use Rattle.bloom_steps.proofs.StepLemmas.Growing.{but_last-more, each-more, last_step-more}
-use Rattle.bloom_steps.proofs.StepLemmas.Members.{member-front, member-seam, member_of_more}
 use Rattle.bloom_steps.proofs.StepLemmas.Writing.{content-word}
 use Rattle.bloom_steps.proofs.StepLemmas.MaskSteps.{its-part, its-reply}
 
@@ -106,7 +106,9 @@ module _ {S : Type 0} (moved : S → Step → ℕ → S → Type 0) (masks : Lis
           ];
           running = but_last-more s t (λ j u. u.ended ≡ Running) ran;
           last = last_step-more s t (λ j u. u.ended ≡ end) refl;
-          tells = ((λ off. which all refl off), (λ lacks. found-off lacks));
+          tells =
+              none-more s t (λ j u. Lacks A u) all on done.tells
+              (its-reply masks i on found whole end);
         }
       where
         ran : (j : ℕ) (u : Taken) → slice_get done.taken j ≡ Some u → u.ended ≡ Running
@@ -116,31 +118,6 @@ module _ {S : Type 0} (moved : S → Step → ℕ → S → Type 0) (masks : Lis
               let inside = slice_get_within done.taken j u got in
               done.last j u got (omega (arith, closes, inside))
         ]
-
-        front : Any done.taken (λ j u. Lacks A u)
-            → Any (done.taken ++ made (Or i mask) found end ∷ []) (λ j u. Lacks A u)
-        front (j, u, got, lacks) =
-            (j, u, member-front done.taken (made (Or i mask) found end ∷ []) u j got, lacks)
-
-        which : (x : Bool) → all ≡ x → (all && on) ≡ false
-            → Any (done.taken ++ made (Or i mask) found end ∷ []) (λ j u. Lacks A u)
-        which false is off = front (done.tells.0 is)
-        which true is off = (
-          length done.taken,
-          made (Or i mask) found end,
-          member-seam done.taken [] (made (Or i mask) found end),
-          (its-reply masks i on found whole end).0 (sym (ap (λ b. b && on) is) ∙ off),
-        )
-
-        found-off : Any (done.taken ++ made (Or i mask) found end ∷ []) (λ j u. Lacks A u)
-            → (all && on) ≡ false
-        found-off (j, u, got, lacks) =
-            elim (member_of_more done.taken (made (Or i mask) found end) u j got) [
-              | inl (first, one) ↦ ap (λ b. b && on) (done.tells.1 (j, u, one, lacks))
-              | inr (at_end, is) ↦
-                  and_right all on
-                  ((its-reply masks i on found whole end).1 (subst (λ x. Lacks A x) is lacks))
-            ]
 
   -- one mask more
   pub masked-more : (range : (i : ℕ) → i < length masks → slice_index masks i < 2 ^ 64)

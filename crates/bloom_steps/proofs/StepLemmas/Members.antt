@@ -1,6 +1,6 @@
 -- Members of a list by their index.
-use Rattle.std.proofs.Common.{[], ◌++◌, ◌+◌, ◌<◌, ◌∙◌, ◌∷◌, ◌≡◌, ◌⊎◌, List, Some, add-one, ap, arith, inl, inr, length, refl, slice_get, suc, sym, take, zero, ℕ}
-use Rattle.bloom_steps.proofs.Common.{none-some, same_Some}
+use Rattle.std.proofs.Common.{[], ◌++◌, ◌+◌, ◌<◌, ◌∙◌, ◌∷◌, ◌≡◌, ◌⊎◌, List, Some, add-one, ap, arith, drop, inl, inr, length, refl, slice_get, suc, sym, take, zero, ℕ}
+use Rattle.std.proofs.lemmas.Option.{none-some, same_Some}
 
 -- a member of one more at the end is an earlier one or the last
 pub member_of_more : {X : Type 0} (s : List X) (x y : X) (i : ℕ)
@@ -68,14 +68,9 @@ member-back [] ys i j e = let same : j ≡ i = omega arith in ap (slice_get ys) 
 member-back (x ∷ xs) ys i zero e = absurd (omega arith)
 member-back (x ∷ xs) ys i (suc j) e = member-back xs ys i j (omega arith)
 
--- a member of two lists is one of the first, or one of the second
-pub member_of_append : {X : Type 0} (xs ys : List X) (i : ℕ) (y : X)
-    → slice_get (xs ++ ys) i ≡ Some y
-    → (slice_get xs i ≡ Some y) ⊎ ((j : ℕ) × (i ≡ length xs + j) × (slice_get ys j ≡ Some y))
-member_of_append [] ys i y e = inr (i, omega arith, e)
-member_of_append (x ∷ xs) ys zero y e = inl e
-member_of_append (x ∷ xs) ys (suc i) y e =
-    elim (member_of_append xs ys i y e) [
-      | inl p ↦ inl p
-      | inr q ↦ inr (q.0, omega (arith, q.1), q.2)
-    ]
+-- members before one, that one, and those after it
+pub split-at : {X : Type 0} (xs : List X) (m : ℕ) (r : X) → slice_get xs m ≡ Some r
+    → xs ≡ take m xs ++ r ∷ drop (suc m) xs
+split-at [] m r e = absurd (none-some r e)
+split-at (x ∷ xs) zero r e = ap (λ y. y ∷ xs) (same_Some _ _ e)
+split-at (x ∷ xs) (suc m) r e = ap (λ l. x ∷ l) (split-at xs m r e)

@@ -1,7 +1,6 @@
 -- What the steps of a plan decide.
 use Rattle.std.proofs.Common.{◌/◌, ◌≡◌, ◌∙◌, ◌⊎◌, [], Bool, ap, inl, inr, None, Option, Some, false, if◌then◌else◌, nat_eq, not, ◌&&◌, refl, true, ℕ}
-use Rattle.bloom_steps.proofs.Common.{both_ways, bit_is_on, Call, Clear, Contains, Insert, Intersect, Union, Step, And, Or, adds_or_takes, EachPair, EachWord, LooksAt, Plan, TurnsOn, goes_by_hash, plan_of, turns_none_off, found_in_other, step_decides}
-use Rattle.bloom_steps.specs.declared.steps.vocabulary.Call.TheVariants.{Take}
+use Rattle.bloom_steps.proofs.Common.{both_ways, bit_is_on, Call, Contains, Insert, Intersect, Union, Step, And, Or, EachPair, EachWord, LooksAt, Plan, TurnsOn, goes_by_hash, plan_of, turns_none_off, found_in_other, step_decides}
 
 -- what a step that sets bits, or else clears them, makes of a bit of the word that it was given
 abbrev pub made : Bool → Bool → Option Bool
@@ -78,12 +77,3 @@ on-only op on by is i x q =
 pub hash-grows : (plan : Plan) → goes_by_hash plan ≡ true → turns_none_off plan ≡ true
 hash-grows (EachPair op on) e = absurd (both_ways false refl e)
 hash-grows plan e = e
-
--- a call that goes by a hash is an insert or a look-up
-pub hash-adds : (call : Call) → goes_by_hash (plan_of call) ≡ true → adds_or_takes call ≡ true
-hash-adds (Insert h) e = refl
-hash-adds (Contains h) e = refl
-hash-adds Clear e = e
-hash-adds Union e = e
-hash-adds Intersect e = e
-hash-adds Take e = refl

@@ -1,5 +1,5 @@
 -- How a machine that was replied stands one step further on.
-use Rattle.bloom_steps.proofs.StepLemmas.Finding.{all_on-more}
+use Rattle.bloom_steps.proofs.StepLemmas.Finding.{none-more}
 use Rattle.std.proofs.Common.{[], ◌&&◌, ◌*◌, ◌++◌, ◌+◌, ◌<◌, ◌||◌, ◌∙◌, ◌∷◌, ◌≡◌, ◌≢◌, ◌⊎◌, Bool, List, None, Some, ap, arith, eq-eqb, false, if◌then◌else◌, inl, inr, length, nat_eq, not, refl, subst, sym, true, ℕ}
 use Rattle.bloom_steps.proofs.Common.{both_ways, eqb-true, bit_is_on, place, Call, Answer, Running, Step, EachPair, LooksAt, Plan, TurnsOn, plan_of, Machine, IsAtPlace, IsPlaced, Keeps, StandsAt, answer_by, asks, end_by, end_of, most_steps, Taken, answer_of, answer_of_end, Learns, MovesOn, Replied, ends_with, StandsFurther}
 use Rattle.bloom_steps.proofs.StepLemmas.Asking.{fits_asked}
@@ -49,8 +49,11 @@ module _ (m n : Machine) (w k : ℕ) where
       → Learns plan m t.found n
       → Keeps w plan n (s ++ t ∷ [])
   keeps-more (TurnsOn h) s t st a =
-      all_on-more s t (λ i t. bit_is_on t.found (place (64 * w) h i)) m.all_on n.all_on st.keeps
-      (a ∙ ap (λ p. m.all_on && bit_is_on t.found p) st.placed.here)
+      let is = a ∙ ap (λ p. m.all_on && bit_is_on t.found p) st.placed.here in
+      let tells =
+      none-more s t (λ i t. bit_is_on t.found (place (64 * w) h i) ≡ false) m.all_on
+      (bit_is_on t.found (place (64 * w) h (length s))) st.keeps ((λ off. off), (λ off. off)) in
+      ((λ off. tells.0 (sym is ∙ off)), (λ some. is ∙ tells.1 some))
   keeps-more (EachPair op way) s t st a = a ∙ sym (last_found-more s t)
   keeps-more plan s t st a = tt
 

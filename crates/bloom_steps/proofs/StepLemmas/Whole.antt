@@ -1,7 +1,6 @@
 -- Whole scripts and beginnings: a beginning runs on, a whole script has ended, so no list is both.
 use Rattle.std.proofs.Common.{[], ◌+◌, ◌∙◌, ◌∷◌, ◌≡◌, ◌≢◌, ◌≤◌, List, None, Some, ap, arith, length, length-append, refl, slice_get, suc, ℕ}
-use Rattle.bloom_steps.proofs.Common.{slice_get_within, Call, Done, End, Running, LooksAt, Plan, TurnsOn, plan_of, IsBeginning, IsLastEnd, IsScript, Last, Taken, answer_of, answer_of_end, HasCount}
-use Rattle.bloom_steps.proofs.StepLemmas.Members.{member-front}
+use Rattle.bloom_steps.proofs.Common.{member-front, slice_get_within, Call, Done, End, Running, LooksAt, Plan, TurnsOn, plan_of, IsBeginning, IsLastEnd, IsScript, Last, Taken, answer_of, answer_of_end, HasCount}
 
 -- how a call stands after some steps
 abbrev pub end_after : List Taken → End

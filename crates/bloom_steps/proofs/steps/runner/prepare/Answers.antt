@@ -1,6 +1,6 @@
 use Rattle.std.proofs.Common.{◌≡◌, ◌≤◌, ◌<◌, ◌^◌, ◌∙◌, sym, subst, length}
 use Rattle.bloom_steps.proofs.Common.{IsWorld}
-use Rattle.bloom_steps.proofs.RunLemmas.Lawful.{first_world}
+use Rattle.bloom_steps.proofs.RunLemmas.Worlds.{first_world}
 use Rattle.bloom_steps.proofs.steps.runner.prepare.Goals as goal
 
 pub returns-clause-world : goal.returns-clause-world
