@@ -2,8 +2,8 @@
 use Rattle.std.proofs.Common.{◌≡◌, ℕ, ◌<◌, Bool, true, false, cond, eqb, leb, List, [], ◌∷◌, ◌++◌, length, map, Option, Some, None, IfSome, refl, sym, ◌∙◌, ap, append_assoc, append-nil, length-append, arith, inl, inr, ◌⊎◌, subst}
 use Rattle.bloom_engine.proofs.Common.{prepend_known, and_left, and_right, cond-false, lt-leb, Line, NextCommand, IsReadUpTo}
 use Rattle.bloom_engine.specs.declared.engine.commands.Next.TheVariants as next
-use Rattle.lines.specs.Lines.{lines_of, has_no_end, IsEnded}
-use Rattle.lines.proofs.LineLemmas.{lines_of-front}
+use Rattle.lines.specs.Lines.{lines_of, has_no_end_by, IsEndedBy}
+use Rattle.lines.proofs.LineLemmas.{lines_by-front}
 use Rattle.lines.proofs.TakenLemmas.{nil-front, ended-before}
 use Rattle.bloom_engine.specs.Lines.{line_of, longest_line, number_of, is_number, value_of, command_with_number}
 use Rattle.bloom_engine.proofs.TakenLemmas.{TakesGood}
@@ -26,7 +26,8 @@ line_of-long (letter ∷ (space ∷ text)) long =
     same false = refl
 
 -- a line that was taken is the first of what was left
-first-line : (taken rest text : List ℕ) → lines_of taken ≡ text ∷ [] → IsEnded taken ⊎ (rest ≡ [])
+first-line : (taken rest text : List ℕ) → lines_of taken ≡ text ∷ []
+    → IsEndedBy 10 taken ⊎ (rest ≡ [])
     → (later : List (List ℕ)) × (lines_of (taken ++ rest) ≡ text ∷ later)
 first-line taken rest text is (inl ended) =
     (lines_of rest, ended rest ∙ ap (λ l. l ++ lines_of rest) is)
@@ -37,7 +38,7 @@ first-line taken rest text is (inr none) =
 -- reader has left
 module _ (before left taken block rest : List ℕ) (lines : List Line)
     (all_good : map line_of (lines_of before) ≡ map Some lines)
-    (ended : IsEnded before) (cut : left ≡ taken ++ (block ++ rest)) where
+    (ended : IsEndedBy 10 before) (cut : left ≡ taken ++ (block ++ rest)) where
   -- what was read of the input
   gave : before ++ left ≡ (before ++ (taken ++ block)) ++ rest
   gave =
@@ -45,8 +46,8 @@ module _ (before left taken block rest : List ℕ) (lines : List Line)
       ∙ sym (append_assoc before (taken ++ block) rest)
 
   -- a short line that isn't good
-  upto-short : (text : List ℕ) → lines_of taken ≡ text ∷ [] → IsEnded taken ⊎ (block ++ rest ≡ [])
-      → line_of text ≡ None
+  upto-short : (text : List ℕ) → lines_of taken ≡ text ∷ []
+      → IsEndedBy 10 taken ⊎ (block ++ rest ≡ []) → line_of text ≡ None
       → IsReadUpTo (before ++ left) (Some (before ++ left)) (Some rest) lines
   upto-short text is last bad =
       let whole = first-line taken (block ++ rest) text is last in
@@ -69,17 +70,17 @@ module _ (before left taken block rest : List ℕ) (lines : List Line)
         };
       }
     where
-      within : IsEnded taken ⊎ (block ++ rest ≡ []) → IsEnded taken ⊎ (block ≡ [])
+      within : IsEndedBy 10 taken ⊎ (block ++ rest ≡ []) → IsEndedBy 10 taken ⊎ (block ≡ [])
       within (inl e) = inl e
       within (inr none) = inr (nil-front block rest none)
 
   -- a line that is too long
-  upto-long : has_no_end taken ≡ true → longest_line < length taken
+  upto-long : has_no_end_by 10 taken ≡ true → longest_line < length taken
       → IsReadUpTo (before ++ left) (Some (before ++ left)) (Some rest) lines
   upto-long inside long =
       let some : 0 < length taken = omega arith in
-      let whole = lines_of-front taken (block ++ rest) inside some in
-      let seen = lines_of-front taken block inside some in
+      let whole = lines_by-front 10 taken (block ++ rest) inside some in
+      let seen = lines_by-front 10 taken block inside some in
       record {
         good = lines_of before;
         bad = taken ++ whole.0;

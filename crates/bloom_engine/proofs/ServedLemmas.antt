@@ -1,7 +1,8 @@
 -- From lines taken and carried out to what serving promises.
 use Rattle.std.proofs.Common.{◌≡◌, ℕ, ◌+◌, ◌^◌, ◌-◌, min, List, [], ◌∷◌, ◌++◌, length, map, Option, Some, None, Result, Err, false, refl, sym, ◌∙◌, ap, length-append, arith}
 use Rattle.std.specs.Prelude.{IfSome}
-use Rattle.bloom_engine.proofs.Common.{Keeps, Appends, prepend_known, both_ways, Filter, JoinedListsLaw, Line, line_of, longest_line, NextCommand, AreAllGood, Carried, ServedAll, ServedUpTo}
+use Rattle.std.proofs.KnownBytes.{Appends-kept}
+use Rattle.bloom_engine.proofs.Common.{Keeps, prepend_known, both_ways, Filter, JoinedListsLaw, Line, line_of, longest_line, NextCommand, AreAllGood, Carried, ServedAll, ServedUpTo}
 use Rattle.bloom_engine.specs.declared.engine.commands.Next.{Next}
 use Rattle.bloom_engine.specs.declared.engine.commands.Next.TheVariants as next
 use Rattle.bloom_engine.specs.declared.fault.Fault.{Fault}
@@ -25,14 +26,6 @@ pub record IsServing {S : Type 0} (read : Option (List ℕ)) (old : Filter S)
   pub knows : KnowsEnd waiting.ended rest
   pub limit : waiting.longest ≡ longest_line
 
--- bytes that were appended stay
-Appends-kept : (a b c : Option (List ℕ)) (bytes : List ℕ) → Appends a b bytes → Keeps b c
-    → Appends a c bytes
-Appends-kept None b c bytes p q = tt
-Appends-kept (Some x) None c bytes p q = absurd p
-Appends-kept (Some x) (Some y) None bytes p q = absurd q
-Appends-kept (Some x) (Some y) (Some z) bytes p q = q ∙ p
-
 -- a flush changes nothing of what lines did
 pub Carried-kept : {S : Type 0} (f g : Filter S) (o p q : Option (List ℕ)) (lines : List Line)
     → Carried f g o p lines → Keeps p q → Carried f g o q lines
@@ -49,7 +42,7 @@ all-good : (read left mid : Option (List ℕ)) (block : List ℕ) (lines : List 
 all-good read left mid block lines took ends =
     at read (taken.IsReadWhole-from 10 read mid left block took.texts took.taken ends)
   where
-    at : (read : Option (List ℕ)) → reading.IsReadWhole read left took.texts
+    at : (read : Option (List ℕ)) → reading.IsReadWholeBy 10 read left took.texts
         → IfSome read (λ bytes. AreAllGood bytes left lines)
     at None whole = tt
     at (Some bytes) whole = record {
