@@ -112,8 +112,9 @@ module _ {end : ℕ} {come coming : Option (List (List ℕ))} {left : Option (Li
         (subst (λ c. Opens c after new) stands.comes opened.opens));
   }
     where
-      stands-next : (inputs : List (List ℕ)) (stands : StandsIn end inputs left coming is.earlier is.last)
-          (rest : List (List ℕ)) → stands.rest ≡ rest → Opens (Some rest) after new
+      stands-next : (inputs : List (List ℕ))
+          (stands : StandsIn end inputs left coming is.earlier is.last) (rest : List (List ℕ))
+          → stands.rest ≡ rest → Opens (Some rest) after new
           → StandsIn end inputs new after lines []
       stands-next inputs stands [] same opens = absurd opens
       stands-next inputs stands (bytes ∷ rest) same opens = record {
