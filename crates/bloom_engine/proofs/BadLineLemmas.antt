@@ -45,6 +45,30 @@ module _ (before left taken block rest : List ℕ) (lines : List Line)
       ap (λ l. before ++ l) (cut ∙ sym (append_assoc taken block rest))
       ∙ sym (append_assoc before (taken ++ block) rest)
 
+  -- the first line that isn't good, in all bytes and in those that the reader gave
+  upto-line : (bad seen : List ℕ) (later behind : List (List ℕ))
+      → lines_of (taken ++ (block ++ rest)) ≡ bad ∷ later
+      → lines_of (taken ++ block) ≡ seen ∷ behind → line_of bad ≡ None
+      → (seen ≡ bad) ⊎ (longest_line < length seen)
+      → IsReadUpTo (before ++ left) (Some (before ++ left)) (Some rest) lines
+  upto-line bad seen later behind whole given is_bad enough = record {
+    good = lines_of before;
+    bad = bad;
+    later = later;
+    cut = ended left ∙ ap (λ l. lines_of before ++ lines_of l) cut
+        ∙ ap (λ l. lines_of before ++ l) whole;
+    all_good = all_good;
+    is_bad = is_bad;
+    given = before ++ (taken ++ block);
+    gave = gave;
+    reached = record {
+      seen = seen;
+      later = behind;
+      cut = ended (taken ++ block) ∙ ap (λ l. lines_of before ++ l) given;
+      enough = enough;
+    };
+  }
+
   -- a short line that isn't good
   upto-short : (text : List ℕ) → lines_of taken ≡ text ∷ []
       → IsEndedBy 10 taken ⊎ (block ++ rest ≡ []) → line_of text ≡ None
@@ -52,23 +76,7 @@ module _ (before left taken block rest : List ℕ) (lines : List Line)
   upto-short text is last bad =
       let whole = first-line taken (block ++ rest) text is last in
       let seen = first-line taken block text is (within last) in
-      record {
-        good = lines_of before;
-        bad = text;
-        later = whole.0;
-        cut = ended left ∙ ap (λ l. lines_of before ++ lines_of l) cut
-            ∙ ap (λ l. lines_of before ++ l) whole.1;
-        all_good = all_good;
-        is_bad = bad;
-        given = before ++ (taken ++ block);
-        gave = gave;
-        reached = record {
-          seen = text;
-          later = seen.0;
-          cut = ended (taken ++ block) ∙ ap (λ l. lines_of before ++ l) seen.1;
-          enough = inl refl;
-        };
-      }
+      upto-line text text whole.0 seen.0 whole.1 seen.1 bad (inl refl)
     where
       within : IsEndedBy 10 taken ⊎ (block ++ rest ≡ []) → IsEndedBy 10 taken ⊎ (block ≡ [])
       within (inl e) = inl e
@@ -81,23 +89,9 @@ module _ (before left taken block rest : List ℕ) (lines : List Line)
       let some : 0 < length taken = omega arith in
       let whole = lines_by-front 10 taken (block ++ rest) inside some in
       let seen = lines_by-front 10 taken block inside some in
-      record {
-        good = lines_of before;
-        bad = taken ++ whole.0;
-        later = whole.1;
-        cut = ended left ∙ ap (λ l. lines_of before ++ lines_of l) cut
-            ∙ ap (λ l. lines_of before ++ l) whole.2;
-        all_good = all_good;
-        is_bad = line_of-long (taken ++ whole.0) (simp length-append (omega arith));
-        given = before ++ (taken ++ block);
-        gave = gave;
-        reached = record {
-          seen = taken ++ seen.0;
-          later = seen.1;
-          cut = ended (taken ++ block) ∙ ap (λ l. lines_of before ++ l) seen.2;
-          enough = inr (simp length-append (omega arith));
-        };
-      }
+      upto-line (taken ++ whole.0) (taken ++ seen.0) whole.1 seen.1 whole.2 seen.2
+      (line_of-long (taken ++ whole.0) (simp length-append (omega arith)))
+      (inr (simp length-append (omega arith)))
 
 -- line n isn't good, after these good lines
 pub upto : (read mid left : Option (List ℕ)) (block : List ℕ) (lines : List Line)
