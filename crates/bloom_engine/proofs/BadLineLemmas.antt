@@ -2,8 +2,8 @@
 use Rattle.std.proofs.Common.{◌≡◌, ℕ, ◌<◌, Bool, true, false, cond, eqb, leb, List, [], ◌∷◌, ◌++◌, length, map, Option, Some, None, IfSome, refl, sym, ◌∙◌, ap, append_assoc, append-nil, length-append, arith, inl, inr, ◌⊎◌, subst}
 use Rattle.bloom_engine.proofs.Common.{prepend_known, and_left, and_right, cond-false, lt-leb, Line, NextCommand, IsReadUpTo}
 use Rattle.bloom_engine.specs.declared.engine.commands.Next.TheVariants as next
-use Rattle.lines.specs.Lines.{lines_of, has_no_end, IsEnded}
-use Rattle.lines.proofs.LineLemmas.{lines_of-front}
+use Rattle.lines.specs.Lines.{lines_of, has_no_end_by, IsEndedBy}
+use Rattle.lines.proofs.LineLemmas.{lines_by-front}
 use Rattle.lines.proofs.TakenLemmas.{nil-front, ended-before}
 use Rattle.bloom_engine.specs.Lines.{line_of, longest_line, number_of, is_number, value_of, command_with_number}
 use Rattle.bloom_engine.proofs.TakenLemmas.{TakesGood}
@@ -26,7 +26,8 @@ line_of-long (letter ∷ (space ∷ text)) long =
     same false = refl
 
 -- a line that was taken is the first of what was left
-first-line : (taken rest text : List ℕ) → lines_of taken ≡ text ∷ [] → IsEnded taken ⊎ (rest ≡ [])
+first-line : (taken rest text : List ℕ) → lines_of taken ≡ text ∷ []
+    → IsEndedBy 10 taken ⊎ (rest ≡ [])
     → (later : List (List ℕ)) × (lines_of (taken ++ rest) ≡ text ∷ later)
 first-line taken rest text is (inl ended) =
     (lines_of rest, ended rest ∙ ap (λ l. l ++ lines_of rest) is)
@@ -37,66 +38,60 @@ first-line taken rest text is (inr none) =
 -- reader has left
 module _ (before left taken block rest : List ℕ) (lines : List Line)
     (all_good : map line_of (lines_of before) ≡ map Some lines)
-    (ended : IsEnded before) (cut : left ≡ taken ++ (block ++ rest)) where
+    (ended : IsEndedBy 10 before) (cut : left ≡ taken ++ (block ++ rest)) where
   -- what was read of the input
   gave : before ++ left ≡ (before ++ (taken ++ block)) ++ rest
   gave =
       ap (λ l. before ++ l) (cut ∙ sym (append_assoc taken block rest))
       ∙ sym (append_assoc before (taken ++ block) rest)
 
+  -- the first line that isn't good, in all bytes and in those that the reader gave
+  upto-line : (bad seen : List ℕ) (later behind : List (List ℕ))
+      → lines_of (taken ++ (block ++ rest)) ≡ bad ∷ later
+      → lines_of (taken ++ block) ≡ seen ∷ behind → line_of bad ≡ None
+      → (seen ≡ bad) ⊎ (longest_line < length seen)
+      → IsReadUpTo (before ++ left) (Some (before ++ left)) (Some rest) lines
+  upto-line bad seen later behind whole given is_bad enough = record {
+    good = lines_of before;
+    bad = bad;
+    later = later;
+    cut = ended left ∙ ap (λ l. lines_of before ++ lines_of l) cut
+        ∙ ap (λ l. lines_of before ++ l) whole;
+    all_good = all_good;
+    is_bad = is_bad;
+    given = before ++ (taken ++ block);
+    gave = gave;
+    reached = record {
+      seen = seen;
+      later = behind;
+      cut = ended (taken ++ block) ∙ ap (λ l. lines_of before ++ l) given;
+      enough = enough;
+    };
+  }
+
   -- a short line that isn't good
-  upto-short : (text : List ℕ) → lines_of taken ≡ text ∷ [] → IsEnded taken ⊎ (block ++ rest ≡ [])
-      → line_of text ≡ None
+  upto-short : (text : List ℕ) → lines_of taken ≡ text ∷ []
+      → IsEndedBy 10 taken ⊎ (block ++ rest ≡ []) → line_of text ≡ None
       → IsReadUpTo (before ++ left) (Some (before ++ left)) (Some rest) lines
   upto-short text is last bad =
       let whole = first-line taken (block ++ rest) text is last in
       let seen = first-line taken block text is (within last) in
-      record {
-        good = lines_of before;
-        bad = text;
-        later = whole.0;
-        cut = ended left ∙ ap (λ l. lines_of before ++ lines_of l) cut
-            ∙ ap (λ l. lines_of before ++ l) whole.1;
-        all_good = all_good;
-        is_bad = bad;
-        given = before ++ (taken ++ block);
-        gave = gave;
-        reached = record {
-          seen = text;
-          later = seen.0;
-          cut = ended (taken ++ block) ∙ ap (λ l. lines_of before ++ l) seen.1;
-          enough = inl refl;
-        };
-      }
+      upto-line text text whole.0 seen.0 whole.1 seen.1 bad (inl refl)
     where
-      within : IsEnded taken ⊎ (block ++ rest ≡ []) → IsEnded taken ⊎ (block ≡ [])
+      within : IsEndedBy 10 taken ⊎ (block ++ rest ≡ []) → IsEndedBy 10 taken ⊎ (block ≡ [])
       within (inl e) = inl e
       within (inr none) = inr (nil-front block rest none)
 
   -- a line that is too long
-  upto-long : has_no_end taken ≡ true → longest_line < length taken
+  upto-long : has_no_end_by 10 taken ≡ true → longest_line < length taken
       → IsReadUpTo (before ++ left) (Some (before ++ left)) (Some rest) lines
   upto-long inside long =
       let some : 0 < length taken = omega arith in
-      let whole = lines_of-front taken (block ++ rest) inside some in
-      let seen = lines_of-front taken block inside some in
-      record {
-        good = lines_of before;
-        bad = taken ++ whole.0;
-        later = whole.1;
-        cut = ended left ∙ ap (λ l. lines_of before ++ lines_of l) cut
-            ∙ ap (λ l. lines_of before ++ l) whole.2;
-        all_good = all_good;
-        is_bad = line_of-long (taken ++ whole.0) (simp length-append (omega arith));
-        given = before ++ (taken ++ block);
-        gave = gave;
-        reached = record {
-          seen = taken ++ seen.0;
-          later = seen.1;
-          cut = ended (taken ++ block) ∙ ap (λ l. lines_of before ++ l) seen.2;
-          enough = inr (simp length-append (omega arith));
-        };
-      }
+      let whole = lines_by-front 10 taken (block ++ rest) inside some in
+      let seen = lines_by-front 10 taken block inside some in
+      upto-line (taken ++ whole.0) (taken ++ seen.0) whole.1 seen.1 whole.2 seen.2
+      (line_of-long (taken ++ whole.0) (simp length-append (omega arith)))
+      (inr (simp length-append (omega arith)))
 
 -- line n isn't good, after these good lines
 pub upto : (read mid left : Option (List ℕ)) (block : List ℕ) (lines : List Line)

@@ -1,14 +1,15 @@
 -- From lines taken and carried out to what serving promises.
-use Rattle.std.proofs.Common.{◌≡◌, ℕ, ◌+◌, ◌^◌, ◌-◌, min, List, [], ◌∷◌, ◌++◌, length, map, Option, Some, None, Result, Err, false, refl, sym, ◌∙◌, ap, length-append, arith}
+use Rattle.std.proofs.Common.{◌≡◌, ℕ, ◌+◌, ◌^◌, ◌-◌, min, List, [], ◌∷◌, ◌++◌, length, map, Option, Result, Err, false, refl, sym, ◌∙◌, ap, length-append, arith}
 use Rattle.std.specs.Prelude.{IfSome}
-use Rattle.bloom_engine.proofs.Common.{Keeps, Appends, prepend_known, both_ways, Filter, JoinedListsLaw, Line, line_of, longest_line, NextCommand, AreAllGood, Carried, ServedAll, ServedUpTo}
+use Rattle.std.proofs.KnownBytes.{Appends-kept}
+use Rattle.std.proofs.lemmas.Option.{IfSome_then}
+use Rattle.bloom_engine.proofs.Common.{Keeps, prepend_known, both_ways, Filter, JoinedListsLaw, Line, line_of, longest_line, NextCommand, AreAllGood, Carried, ServedAll, ServedUpTo}
 use Rattle.bloom_engine.specs.declared.engine.commands.Next.{Next}
 use Rattle.bloom_engine.specs.declared.engine.commands.Next.TheVariants as next
 use Rattle.bloom_engine.specs.declared.fault.Fault.{Fault}
 use Rattle.bloom_engine.specs.declared.fault.Fault.TheVariants as fault
-use Rattle.lines.specs.Reading as reading
 use Rattle.lines.specs.Reading.{Ends, KnowsEnd, Waiting, left_of}
-use Rattle.lines.proofs.TakenLemmas as taken
+use Rattle.lines.proofs.TakenLemmas.{IsReadWhole-from}
 use Rattle.bloom_engine.proofs.BadLineLemmas.{upto}
 use Rattle.bloom_engine.proofs.CarriedLemmas.{Carried-nil, Carried-more}
 use Rattle.bloom_engine.proofs.TakenLemmas.{TakesGood, TakesGood-nil, TakesGood-more}
@@ -25,14 +26,6 @@ pub record IsServing {S : Type 0} (read : Option (List ℕ)) (old : Filter S)
   pub knows : KnowsEnd waiting.ended rest
   pub limit : waiting.longest ≡ longest_line
 
--- bytes that were appended stay
-Appends-kept : (a b c : Option (List ℕ)) (bytes : List ℕ) → Appends a b bytes → Keeps b c
-    → Appends a c bytes
-Appends-kept None b c bytes p q = tt
-Appends-kept (Some x) None c bytes p q = absurd p
-Appends-kept (Some x) (Some y) None bytes p q = absurd q
-Appends-kept (Some x) (Some y) (Some z) bytes p q = q ∙ p
-
 -- a flush changes nothing of what lines did
 pub Carried-kept : {S : Type 0} (f g : Filter S) (o p q : Option (List ℕ)) (lines : List Line)
     → Carried f g o p lines → Keeps p q → Carried f g o q lines
@@ -47,15 +40,11 @@ all-good : (read left mid : Option (List ℕ)) (block : List ℕ) (lines : List 
     → TakesGood read mid lines → Ends mid (prepend_known block left)
     → IfSome read (λ bytes. AreAllGood bytes left lines)
 all-good read left mid block lines took ends =
-    at read (taken.IsReadWhole-from 10 read mid left block took.texts took.taken ends)
-  where
-    at : (read : Option (List ℕ)) → reading.IsReadWhole read left took.texts
-        → IfSome read (λ bytes. AreAllGood bytes left lines)
-    at None whole = tt
-    at (Some bytes) whole = record {
+    IfSome_then read (IsReadWhole-from 10 read mid left block took.texts took.taken ends)
+    (λ bytes whole. record {
       good = ap (map line_of) whole.are_lines ∙ took.good;
       none_left = whole.none_left;
-    }
+    })
 
 -- nothing was taken yet
 pub serving_nothing : {S : Type 0} (read from : Option (List ℕ)) (filter : Filter S)

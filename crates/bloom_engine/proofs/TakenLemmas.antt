@@ -2,13 +2,13 @@
 use Rattle.std.proofs.Common.{◌≡◌, ℕ, List, [], ◌∷◌, ◌++◌, map, Option, Some, refl, sym, ◌∙◌, ap}
 use Rattle.bloom_engine.proofs.Common.{prepend_known, Line, line_of}
 use Rattle.std.proofs.lemmas.List.{map-append}
-use Rattle.lines.specs.Reading.{TakesLine}
-use Rattle.lines.proofs.TakenLemmas.{TakesLines, TakesLines-nil, TakesLines-more}
+use Rattle.lines.specs.Reading.{TakesLineBy}
+use Rattle.lines.proofs.TakenLemmas.{TakesLinesBy, TakesLines-nil, TakesLines-more}
 
 -- lines were taken, and each is good
 pub record TakesGood (old new : Option (List ℕ)) (lines : List Line) : Type 0 where
   pub texts : List (List ℕ)
-  pub taken : TakesLines old new texts
+  pub taken : TakesLinesBy 10 old new texts
   pub good : map line_of texts ≡ map Some lines
 
 -- no line was taken yet
@@ -19,7 +19,7 @@ TakesGood-nil block read empty =
 
 -- one more good line was taken
 pub TakesGood-more : (a b c : Option (List ℕ)) (lines : List Line) (text : List ℕ) (line : Line)
-    → TakesGood a b lines → TakesLine b c text → line_of text ≡ Some line
+    → TakesGood a b lines → TakesLineBy 10 b c text → line_of text ≡ Some line
     → TakesGood a c (lines ++ line ∷ [])
 TakesGood-more a b c lines text line so_far one good = record {
   texts = so_far.texts ++ text ∷ [];

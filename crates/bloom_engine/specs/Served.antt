@@ -7,7 +7,7 @@ use Rattle.bloom_plain.specs.Filter.{Filter}
 use Rattle.bloom_plain.specs.Replies.{CarriesOut}
 use Rattle.bloom_engine.specs.declared.engine.line.Line.{Line}
 use Rattle.lines.specs.Lines.{lines_of}
-use Rattle.lines.specs.Reading.{IsReadFrom}
+use Rattle.lines.specs.Reading.{IsReadFromBy}
 use Rattle.bloom_engine.specs.Lines.{line_of, longest_line, operations}
 use Rattle.bloom_engine.specs.Texts.{text_of}
 
@@ -66,7 +66,7 @@ pub record ServedUpTo {S : Type 0} (n : ℕ) (read left : Option (List ℕ)) (ol
 -- good
 pub record AreFirstGood (read : Option (List ℕ)) (lines : List Line) : Type 0 where
   pub texts : List (List ℕ)
-  pub first : IsReadFrom read texts
+  pub first : IsReadFromBy 10 read texts
   pub good : map line_of texts ≡ map Some lines
 
 -- the first lines were carried out, before a read failed

@@ -1,6 +1,6 @@
 -- Files of filters read back as these filters.
 use Rattle.std.proofs.Common.{◌≡◌, ℕ, ◌*◌, ◌^◌, ◌<◌, ◌≤◌, List, ◌++◌, length, drop, Some, None, refl, sym, ap, subst, ◌∙◌, arith, inl, inr, lit<}
-use Rattle.bloom_files.proofs.Common.{◌⊎◌, slice_index, option_or, common_steps, All-from_recursion, AreWords, sip, whole_words, FileError, Blocked, NotBlocked, Head, Layout, Whole, Lines, DefaultFilter, bytes_of, head_of, AreWhole, IsFileIn, layout_number, layout_refusal, numbers_in, refusal_in, right_seal, sealed_bytes, head_refusal, number_at, wrong_seal}
+use Rattle.bloom_files.proofs.Common.{◌⊎◌, slice_index, option_or, common_steps, All-from_recursion, AreWords, sip, whole_words, FileError, Blocked, NotBlocked, Head, Layout, Whole, Lines, DefaultFilter, bytes_of, head_of, AreWhole, layout_number, layout_refusal, numbers_in, refusal_in, right_seal, sealed_bytes, head_refusal, number_at, wrong_seal}
 use Rattle.bloom_parts.specs.Keys.{HasKey, key_of}
 use Rattle.bloom_parts.specs.declared.hasher.CloneBuildHasher.{CloneBuildHasher}
 use Rattle.bloom_parts.specs.declared.hasher.sip.RandomDefaultHasher.{RandomDefaultHasher}
@@ -33,81 +33,90 @@ seal-kept : (found right : ℕ) → (found ≡ 0) ⊎ (found ≡ right) → wron
 seal-kept found right (inl none) = rw none refl
 seal-kept found right (inr same) = rw same (grind (arith, common_steps))
 
--- a file of a head and words, whose words and whose key have 64 bits
-module _ (layout : Layout) (bytes : List ℕ) (head : Head) (words : List ℕ)
-    (is : IsFileIn layout bytes head words) (fit : AreWords words) (low : head.k0 < 2 ^ 64)
-    (high : head.k1 < 2 ^ 64) where
-  abbrev start : List ℕ
-  start = bytes_of (numbers_in layout head is.seal)
+-- a file of a filter
+module _ (layout : Layout) (bytes : List ℕ) (f : DefaultFilter) (of : IsFileOf layout bytes f)
+  where
+    abbrev parts : List ℕ
+    parts = numbers_in layout (head_of f) of.parts.seal
 
-  head-fits : AreWords (numbers_in layout head is.seal)
-  head-fits =
-      All-from_recursion (λ n. n < 2 ^ 64) (numbers_in layout head is.seal) (
-        lit< tt,
-        (
-          omega (arith, is.shape.few_hashes),
+    abbrev start : List ℕ
+    start = bytes_of parts
+
+    head-fits : AreWords parts
+    head-fits =
+        All-from_recursion (λ n. n < 2 ^ 64) parts (
+          lit< tt,
           (
-            omega (arith, is.shape.few_words, is.count),
-            (low, (high, (is.narrow, (layout-fits layout, (lit< tt, tt))))),
+            omega (arith, of.parts.shape.few_hashes),
+            (
+              omega (arith, of.parts.shape.few_words, of.parts.count),
+              (
+                of.fits.low,
+                (of.fits.high, (of.parts.narrow, (layout-fits layout, (lit< tt, tt)))),
+              ),
+            ),
           ),
-        ),
-      )
+        )
 
-  -- the numbers of the file are those of its head, and the words
-  numbers-of : whole_words bytes ≡ numbers_in layout head is.seal ++ words
-  numbers-of =
-      ap whole_words is.is
-      ∙ whole_words-bytes (numbers_in layout head is.seal) (bytes_of words) head-fits
-      ∙ ap (λ l. numbers_in layout head is.seal ++ l) (whole_words-alone words fit)
+    -- the numbers of the file are those of its head, and the words
+    numbers-of : whole_words bytes ≡ parts ++ f.words
+    numbers-of =
+        ap whole_words of.parts.is ∙ whole_words-bytes parts (bytes_of f.words) head-fits
+        ∙ ap (λ l. parts ++ l) (whole_words-alone f.words of.fits.words)
 
-  are : whole_words start ≡ numbers_in layout head is.seal
-  are = whole_words-alone (numbers_in layout head is.seal) head-fits
+    are : whole_words start ≡ parts
+    are = whole_words-alone parts head-fits
 
-  number : (place : ℕ)
-      → number_at start place ≡ slice_index (numbers_in layout head is.seal) place
-  number place = ap (λ l. slice_index l place) are
+    number : (place : ℕ) → number_at start place ≡ slice_index parts place
+    number place = ap (λ l. slice_index l place) are
 
-  size : length start ≡ 64
-  size = length-bytes_of (numbers_in layout head is.seal)
+    size : length start ≡ 64
+    size = length-bytes_of parts
 
-  right : length (bytes_of words) ≡ 8 * number_at start 2
-  right = omega (arith, length-bytes_of words, number 2, is.count)
+    right : length (bytes_of f.words) ≡ 8 * number_at start 2
+    right = omega (arith, length-bytes_of f.words, number 2, of.parts.count)
 
-  good : head_refusal start ≡ None
-  good =
-      head-kept layout start head is.seal are is.shape.some_hashes is.shape.few_hashes
-      (omega (arith, is.shape.some_words, is.count))
-      (omega (arith, is.shape.few_words, is.count))
+    good : head_refusal start ≡ None
+    good =
+        head-kept layout start (head_of f) of.parts.seal are of.parts.shape.some_hashes
+        of.parts.shape.few_hashes (omega (arith, of.parts.shape.some_words, of.parts.count))
+        (omega (arith, of.parts.shape.few_words, of.parts.count))
 
-  none : layout_refusal layout start ≡ None
-  none = end-kept layout start head is.seal are (subst (AreWhole layout) is.count is.whole)
+    none : layout_refusal layout start ≡ None
+    none =
+        end-kept layout start (head_of f) of.parts.seal are
+        (subst (AreWhole layout) of.parts.count of.parts.whole)
 
-  covered : right_seal layout head words ≡ sip 0 0 (sealed_bytes layout start ++ bytes_of words)
-  covered =
-      ap (λ l. sip 0 0 (l ++ bytes_of words)) (sym (sealed-head layout head is.seal start refl))
+    covered : right_seal layout (head_of f) f.words
+        ≡ sip 0 0 (sealed_bytes layout start ++ bytes_of f.words)
+    covered =
+        ap (λ l. sip 0 0 (l ++ bytes_of f.words))
+        (sym (sealed-head layout (head_of f) of.parts.seal start refl))
 
-  sealed : wrong_seal (number_at start 5) (sip 0 0 (sealed_bytes layout start ++ bytes_of words))
-      ≡ None
-  sealed =
-      seal-kept _ _
-      (elim is.sealed [
-        | inl unsealed ↦ inl (number 5 ∙ unsealed)
-        | inr same ↦ inr (number 5 ∙ same ∙ covered)
-      ])
+    sealed : wrong_seal (number_at start 5)
+        (sip 0 0 (sealed_bytes layout start ++ bytes_of f.words)) ≡ None
+    sealed =
+        seal-kept _ _
+        (elim of.parts.sealed [
+          | inl unsealed ↦ inl (number 5 ∙ unsealed)
+          | inr same ↦ inr (number 5 ∙ same ∙ covered)
+        ])
 
-  -- it isn't refused
-  readable : refusal_in layout bytes ≡ None
-  readable =
-      ap (refusal_in layout) is.is ∙ refusal_in-head start (bytes_of words) size layout right
-      ∙ (λ i. option_or (good i) (option_or (none i) (sealed i)))
+    -- it isn't refused
+    readable : refusal_in layout bytes ≡ None
+    readable =
+        ap (refusal_in layout) of.parts.is
+        ∙ refusal_in-head start (bytes_of f.words) size layout right
+        ∙ (λ i. option_or (good i) (option_or (none i) (sealed i)))
 
-  -- what its end is refused for, where another layout is read, is reported
-  refused-end : (other : Layout) (error : FileError) → layout_refusal other start ≡ Some error
-      → refusal_in other bytes ≡ Some error
-  refused-end other error told =
-      ap (refusal_in other) is.is ∙ refusal_in-head start (bytes_of words) size other right
-      ∙ (λ i. option_or (good i) (option_or (told i)
-      (wrong_seal (number_at start 5) (sip 0 0 (sealed_bytes other start ++ bytes_of words)))))
+    -- what its end is refused for, where another layout is read, is reported
+    refused-end : (other : Layout) (error : FileError) → layout_refusal other start ≡ Some error
+        → refusal_in other bytes ≡ Some error
+    refused-end other error told =
+        ap (refusal_in other) of.parts.is
+        ∙ refusal_in-head start (bytes_of f.words) size other right
+        ∙ (λ i. option_or (good i) (option_or (told i)
+        (wrong_seal (number_at start 5) (sip 0 0 (sealed_bytes other start ++ bytes_of f.words)))))
 
 -- the end of a head of lines is refused where none are read, and the other way round
 end-blocked : (head : List ℕ) (h : Head) (seal : ℕ) → whole_words head ≡ numbers_in Lines h seal
@@ -118,32 +127,12 @@ end-not_blocked : (head : List ℕ) (h : Head) (seal : ℕ)
     → whole_words head ≡ numbers_in Whole h seal → layout_refusal Lines head ≡ Some NotBlocked
 end-not_blocked head h seal are = rw are refl
 
--- so each is refused by name where the other is read
-blocked-refused : (bytes : List ℕ) (head : Head) (words : List ℕ)
-    → IsFileIn Lines bytes head words → AreWords words → head.k0 < 2 ^ 64 → head.k1 < 2 ^ 64
-    → refusal_in Whole bytes ≡ Some Blocked
-blocked-refused bytes head words is fit low high =
-    refused-end Lines bytes head words is fit low high Whole Blocked
-    (end-blocked _ head is.seal (are Lines bytes head words is fit low high))
-
-not_blocked-refused : (bytes : List ℕ) (head : Head) (words : List ℕ)
-    → IsFileIn Whole bytes head words → AreWords words → head.k0 < 2 ^ 64 → head.k1 < 2 ^ 64
-    → refusal_in Lines bytes ≡ Some NotBlocked
-not_blocked-refused bytes head words is fit low high =
-    refused-end Whole bytes head words is fit low high Lines NotBlocked
-    (end-not_blocked _ head is.seal (are Whole bytes head words is fit low high))
-
 -- two filters of one file
 module _ (layout : Layout) (bytes : List ℕ) (f g : DefaultFilter) (of : IsFileOf layout bytes f)
     (also : IsFileOf layout bytes g) where
-  numbers : (h : DefaultFilter) (is : IsFileOf layout bytes h)
-      → whole_words bytes ≡ numbers_in layout (head_of h) is.parts.seal ++ h.words
-  numbers h is =
-      numbers-of layout bytes (head_of h) h.words is.parts is.fits.words is.fits.low is.fits.high
-
   same : numbers_in layout (head_of g) also.parts.seal ++ g.words
       ≡ numbers_in layout (head_of f) of.parts.seal ++ f.words
-  same = sym (numbers g also) ∙ numbers f of
+  same = sym (numbers-of layout bytes g also) ∙ numbers-of layout bytes f of
 
   same-number : (place : ℕ)
       → slice_index (numbers_in layout (head_of g) also.parts.seal ++ g.words) place
@@ -180,14 +169,15 @@ same_file_items_law hash_of by_key keyed layout bytes f g of also key key' item 
 
 -- a file of a filter is never refused where its layout is read
 pub readable_law : ReadableLaw
-readable_law layout bytes f is =
-    readable layout bytes (head_of f) f.words is.parts is.fits.words is.fits.low is.fits.high
+readable_law = readable
 
 -- a file of lines is refused by name where none are read, and the other way round
 pub blocked_refused_law : BlockedRefusedLaw
 blocked_refused_law bytes f is =
-    blocked-refused bytes (head_of f) f.words is.parts is.fits.words is.fits.low is.fits.high
+    refused-end Lines bytes f is Whole Blocked
+    (end-blocked _ (head_of f) is.parts.seal (are Lines bytes f is))
 
 pub not_blocked_refused_law : NotBlockedRefusedLaw
 not_blocked_refused_law bytes f is =
-    not_blocked-refused bytes (head_of f) f.words is.parts is.fits.words is.fits.low is.fits.high
+    refused-end Whole bytes f is Lines NotBlocked
+    (end-not_blocked _ (head_of f) is.parts.seal (are Whole bytes f is))

@@ -29,10 +29,6 @@ head_numbers head seal = opening head ++ seal ∷ 0 ∷ 0 ∷ []
 abbrev pub seal_of : Head → List ℕ → ℕ
 seal_of head words = sip 0 0 (bytes_of (opening head) ++ bytes_of words)
 
--- a file of a head, a seal and words
-abbrev pub file_with : Head → ℕ → List ℕ → List ℕ
-file_with head seal words = bytes_of (head_numbers head seal) ++ bytes_of words
-
 -- what the head of a filter's file says
 abbrev pub head_of : DefaultFilter → Head
 head_of f = record {

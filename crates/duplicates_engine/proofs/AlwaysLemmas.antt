@@ -15,13 +15,6 @@ always-new P line reply seen is lines had front behind other cut reach same =
     (All-get_or P (front ++ other ∷ behind) (length front) [] at (subst (All P) cut had))))
     ∙ is)
 
--- behind one more line, it has that too
-pub always-more : (P Q : List ℕ → Type 0) (line : List ℕ) → Q line
-    → ((other : List ℕ) → P other → Q other) → (lines : List (List ℕ)) → All P lines
-    → All Q (lines ++ line ∷ [])
-always-more P Q line here stays lines had = All-push Q lines line (All-weaker P Q stays lines had)
-    here
-
 -- under the same hasher a line keeps its hash
 pub keeps-hash : {S : Type 0} (hash_of : S → List ℕ → ℕ) {old new : S} → new ≡ old
     → (line : List ℕ) (hash : ℕ) → hash ≡ hash_of old line → hash ≡ hash_of new line
@@ -32,12 +25,15 @@ module _ {V S : Type 0} (contains : V → ℕ → Bool) (hash_of : S → List �
     (old new : V) (line : List ℕ) (same : hasher_of new ≡ hasher_of old)
     (here : contains new (hash_of (hasher_of old) line) ≡ true)
     (stays : (hash : ℕ) → contains old hash ≡ true → contains new hash ≡ true) where
+  -- behind one more line, it has that too
   pub hashed-more : (lines : List (List ℕ))
       → All (λ l. contains old (hash_of (hasher_of old) l) ≡ true) lines
       → All (λ l. contains new (hash_of (hasher_of new) l) ≡ true) (lines ++ line ∷ [])
-  hashed-more =
-      always-more (λ l. contains old (hash_of (hasher_of old) l) ≡ true)
-      (λ l. contains new (hash_of (hasher_of new) l) ≡ true) line
-      (subst (λ s. contains new (hash_of s line) ≡ true) (sym same) here)
+  hashed-more lines had =
+      let has : List ℕ → Type 0 = λ l. contains new (hash_of (hasher_of new) l) ≡ true in
+      All-push has lines line
+      (All-weaker (λ l. contains old (hash_of (hasher_of old) l) ≡ true) has
       (λ other was. subst (λ s. contains new (hash_of s other) ≡ true) (sym same)
       (stays (hash_of (hasher_of old) other) was))
+      lines had)
+      (subst (λ s. contains new (hash_of s line) ≡ true) (sym same) here)

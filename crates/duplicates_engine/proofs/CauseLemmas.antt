@@ -7,32 +7,23 @@ use Rattle.duplicates_engine.specs.Causes.{FailsToOpen, FailsBehind, IsOfStep, A
 -- an open that failed is no long line
 pub opening-system : {I : Type 0} (fails : I → I → ErrorKind → Type 0) (old new : I)
     (fault : Fault) → FailsToOpen fails old new fault → IsOfSystem fault
-opening-system fails old new (TooLong number) is = absurd is.told
 opening-system fails old new Memory is = tt
-opening-system fails old new Full is = absurd is.told
 opening-system fails old new (Open kind) is = tt
-opening-system fails old new (Input kind) is = absurd is.told
-opening-system fails old new (Output kind) is = absurd is.told
+opening-system fails old new other is = absurd is.told
 
 -- a fault before the next line is no long line
 pub step-system : (opens : Fault → Type 0) (fault : Fault) → IsOfStep opens fault
     → IsOfSystem fault
 step-system opens (TooLong number) is = absurd is
-step-system opens Memory is = tt
 step-system opens Full is = absurd is
-step-system opens (Open kind) is = tt
-step-system opens (Input kind) is = tt
-step-system opens (Output kind) is = tt
+step-system opens other is = tt
 
 -- nor is the refusal of a line
 pub refusal-system : {V : Type 0} (refuses : V → List ℕ → GrowingError → Type 0) (sieve : V)
     (line : List ℕ) (fault : Fault) → RefusesLine refuses sieve line fault → IsOfSystem fault
-refusal-system refuses sieve line (TooLong number) is = absurd is.told
 refusal-system refuses sieve line Memory is = tt
 refusal-system refuses sieve line Full is = tt
-refusal-system refuses sieve line (Open kind) is = absurd is.told
-refusal-system refuses sieve line (Input kind) is = absurd is.told
-refusal-system refuses sieve line (Output kind) is = absurd is.told
+refusal-system refuses sieve line other is = absurd is.told
 
 module _ {V I : Type 0} (refuses : V → List ℕ → GrowingError → Type 0)
     (fails : I → I → ErrorKind → Type 0) (end longest : ℕ) (come : Option (List (List ℕ)))
@@ -40,16 +31,13 @@ module _ {V I : Type 0} (refuses : V → List ℕ → GrowingError → Type 0)
   -- before any line an open may fail
   pub caused-first : (old new : I) (fault : Fault) → FailsToOpen fails old new fault
       → IsCaused refuses fails end longest come [] sieve new fault
-  caused-first old new (TooLong number) is = absurd is.told
   caused-first old new Memory is = tt
-  caused-first old new Full is = absurd is.told
   caused-first old new (Open kind) is = record { old = old; opening = is; behind = none come }
     where
       none : (come : Option (List (List ℕ))) → IfSome come (λ inputs. AreOfFirst end inputs [])
       none None = tt
       none (Some inputs) = record { done = []; rest = inputs; cut = refl; are_lines = refl }
-  caused-first old new (Input kind) is = absurd is.told
-  caused-first old new (Output kind) is = absurd is.told
+  caused-first old new other is = absurd is.told
 
   module _ (lines : List (List ℕ)) where
     -- before the next line, where an open comes only behind an input that has ended
@@ -59,32 +47,24 @@ module _ {V I : Type 0} (refuses : V → List ℕ → GrowingError → Type 0)
         → IfSome come (λ inputs. AreOfFirst end inputs lines))
         → IsCaused refuses fails end longest come lines sieve new fault
     caused-step left old new (TooLong number) is behind = absurd is
-    caused-step left old new Memory is behind = tt
     caused-step left old new Full is behind = absurd is
     caused-step left old new (Open kind) is behind =
         record { old = old; opening = is.opening; behind = behind is.last is.ends }
     caused-step left old new (Input kind) is behind = is
-    caused-step left old new (Output kind) is behind = tt
+    caused-step left old new other is behind = tt
 
     -- at a line that the sieve refused
     pub caused-line : (inputs : I) (line : List ℕ) (fault : Fault)
         → AreFirstRead end come (lines ++ line ∷ []) → length line ≤ longest
         → RefusesLine refuses sieve line fault
         → IsCaused refuses fails end longest come lines sieve inputs fault
-    caused-line inputs line (TooLong number) next short is = absurd is.told
     caused-line inputs line Memory next short is = tt
     caused-line inputs line Full next short is =
         record { line = line; next = next; short = short; refusal = is }
-    caused-line inputs line (Open kind) next short is = absurd is.told
-    caused-line inputs line (Input kind) next short is = absurd is.told
-    caused-line inputs line (Output kind) next short is = absurd is.told
+    caused-line inputs line other next short is = absurd is.told
 
     -- a writer may fail at any line
     pub caused-writer : (inputs : I) (fault : Fault) → IsOfWriter fault
         → IsCaused refuses fails end longest come lines sieve inputs fault
-    caused-writer inputs (TooLong number) is = absurd is
-    caused-writer inputs Memory is = absurd is
-    caused-writer inputs Full is = absurd is
-    caused-writer inputs (Open kind) is = absurd is
-    caused-writer inputs (Input kind) is = absurd is
     caused-writer inputs (Output kind) is = tt
+    caused-writer inputs other is = absurd is

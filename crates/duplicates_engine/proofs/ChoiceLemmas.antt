@@ -1,12 +1,12 @@
 -- The lines that a run writes are a choice of all lines.
-use Rattle.std.proofs.Common.{ℕ, List, Option, Result, Ok, Err}
-use Rattle.duplicates_engine.proofs.Common.{IfOk, IfErr, ErrorKind, Fault, Options, Ghosts, Total, WritesChoice, WritesChoiceUntil, chosen, EndsEarly, KeepsNew, KeepsUntil}
+use Rattle.std.proofs.Common.{ℕ, List, Option}
+use Rattle.duplicates_engine.proofs.Common.{Fault, Options, Ghosts, Total, WritesChoice, WritesChoiceUntil, chosen, KeepsNew, KeepsUntil}
 use Rattle.duplicates_engine.proofs.PlaceLemmas.{chosen-nothing, leaves-new, writes-new}
 
 module _ {V : Type 0} (sieve : Ghosts V) (end : ℕ) (options : Options)
     (come : Option (List (List ℕ))) (old new : V) (from to : Option (List ℕ)) where
   -- a whole run writes a choice of all lines
-  writes-choice : (left : Option (List (List ℕ))) (total : Total)
+  pub writes-choice : (left : Option (List (List ℕ))) (total : Total)
       → KeepsNew sieve end options come left old new from to total
       → WritesChoice (sieve.span old) end options come left from to
   writes-choice left total run = record {
@@ -43,17 +43,3 @@ module _ {V : Type 0} (sieve : Ghosts V) (end : ℕ) (options : Options)
     text = run.text;
     is_text = run.is_text;
   }
-
-  -- where a run went well, and where it came to a fault
-  pub choice-ok : (left : Option (List (List ℕ))) (result : Result Total Fault)
-      → IfOk result (KeepsNew sieve end options come left old new from to)
-      → IfOk result (λ total. WritesChoice (sieve.span old) end options come left from to)
-  choice-ok left (Ok total) run = writes-choice left total run
-  choice-ok left (Err fault) run = tt
-
-  pub choice-err : {I A : Type 0} (fails : I → I → ErrorKind → Type 0) (inputs : I)
-      (result : Result A Fault)
-      → IfErr result (EndsEarly sieve fails end options come inputs old new from to)
-      → IfErr result (WritesChoiceUntil (sieve.span old) end options come from to)
-  choice-err fails inputs (Ok value) ends = tt
-  choice-err fails inputs (Err fault) ends = writes-until fault ends.until

@@ -15,6 +15,7 @@ mod InputFacts
 mod InputLemmas
 mod KeepingLemmas
 mod KeptFacts
+mod KeptLemmas
 mod LineStepLemmas
 mod LongerLemmas
 mod PlaceLemmas

@@ -1,6 +1,7 @@
 -- What one line does to a filter that rotates.
-use Rattle.std.proofs.Common.{◌≡◌, ◌<◌, ◌≤◌, ℕ, suc, Bool, true, false, ◌||◌, cond, List, [], ◌∷◌, ◌++◌, length, map, Some, nat_eq, refl, sym, ◌∙◌, ap, subst, arith}
+use Rattle.std.proofs.Common.{◌≡◌, ◌<◌, ◌≤◌, ℕ, suc, Bool, true, false, ◌⊎◌, inl, inr, cond, List, [], ◌∷◌, ◌++◌, length, map, Some, nat_eq, refl, sym, ◌∙◌, ap, subst, arith}
 use Rattle.duplicates_engine.proofs.Common.{true≢false, Kind, IsNew}
+use Rattle.std.proofs.lemmas.Bool.{or_cases, or_left, or_right}
 use Rattle.std.proofs.lemmas.List.{map-append}
 use Rattle.std.proofs.lemmas.Slice.Eq.{bytes_eq-Decides}
 use Rattle.std.specs.Cmp.{unsigned_Decides}
@@ -13,33 +14,18 @@ module _ (hash_of : List ℕ → ℕ) where
   hash-in : (lines : List (List ℕ)) (line : List ℕ) → is_member bytes_eq lines line ≡ true
       → is_member nat_eq (map hash_of lines) (hash_of line) ≡ true
   hash-in [] line is = is
-  hash-in (l ∷ lines) line is = by (hash-in lines line) (bytes_eq line l) refl
+  hash-in (l ∷ lines) line is =
+      by (hash-in lines line) (or_cases (bytes_eq line l) (is_member bytes_eq lines line) is)
     where
-      rest : (a b : Bool) → (a || b) ≡ true → a ≡ false → b ≡ true
-      rest true b told out = absurd (true≢false out)
-      rest false b told out = told
-
-      first : (a b : Bool) → a ≡ true → (a || b) ≡ true
-      first true b is = refl
-      first false b is = absurd (true≢false (sym is))
-
-      second : (a b : Bool) → b ≡ true → (a || b) ≡ true
-      second true b is = refl
-      second false b is = is
-
       by : (is_member bytes_eq lines line ≡ true
           → is_member nat_eq (map hash_of lines) (hash_of line) ≡ true)
-          → (b : Bool) → bytes_eq line l ≡ b
+          → (bytes_eq line l ≡ true) ⊎ (is_member bytes_eq lines line ≡ true)
           → is_member nat_eq (map hash_of (l ∷ lines)) (hash_of line) ≡ true
-      by later true same =
-          first (nat_eq (hash_of line) (hash_of l))
-          (is_member nat_eq (map hash_of lines) (hash_of line))
+      by later (inl same) =
+          or_left (nat_eq (hash_of line) (hash_of l)) _
           ((unsigned_Decides (hash_of line) (hash_of l)).1
           (ap hash_of ((bytes_eq-Decides line l).0 same)))
-      by later false differs =
-          second (nat_eq (hash_of line) (hash_of l))
-          (is_member nat_eq (map hash_of lines) (hash_of line))
-          (later (rest (bytes_eq line l) (is_member bytes_eq lines line) is differs))
+      by later (inr behind) = or_right (nat_eq (hash_of line) (hash_of l)) _ (later behind)
 
   -- lines have at most as many different hashes as there are different lines
   few-hashes : (lines : List (List ℕ))

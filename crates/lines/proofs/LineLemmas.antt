@@ -1,7 +1,7 @@
 -- Cutting bytes into lines that the byte `end` ends.
 use Rattle.std.proofs.Common.{◌≡◌, ◌≢◌, ℕ, ◌<◌, zero, suc, true, false, not, eqb, get_or, List, [], ◌∷◌, ◌++◌, length, refl, sym, ◌∙◌, ap, append_assoc, arith}
 use Rattle.std.proofs.lemmas.Bool.{and_parts, and_from, and_left, and_right, ne_eqb, eq-eqb, not-true, cond-false, cond-true}
-use Rattle.lines.specs.Lines.{lines_by, lines_of, onto_first, has_no_end, has_no_end_by, IsEndedBy}
+use Rattle.lines.specs.Lines.{lines_by, onto_first, has_no_end_by, IsEndedBy}
 
 -- no bytes are no lines
 pub lines_by-nil : (end : ℕ) → lines_by end [] ≡ []
@@ -110,8 +110,3 @@ IsEnded-append end a b first second rest =
     ∙ ap (λ l. lines_by end a ++ l) (second rest)
     ∙ sym (append_assoc (lines_by end a) (lines_by end b) (lines_by end rest))
     ∙ ap (λ l. l ++ lines_by end rest) (sym (first b))
-
-pub lines_of-front : (front rest : List ℕ) → has_no_end front ≡ true → 0 < length front
-    → (line : List ℕ) × (later : List (List ℕ))
-    × (lines_of (front ++ rest) ≡ (front ++ line) ∷ later)
-lines_of-front front rest inside some = lines_by-front 10 front rest inside some

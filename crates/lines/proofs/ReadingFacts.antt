@@ -6,7 +6,7 @@ use Rattle.lines.specs.declared.reader.Next.TheVariants.{End, Line, TooLong}
 use Rattle.lines.specs.Filling.{GivesFewer}
 use Rattle.lines.specs.Lines.{lines_by, has_no_end_by}
 use Rattle.lines.specs.Losing.{LosesPart}
-use Rattle.lines.specs.Reading.{Waiting, IsReadToLong, IsReadWhole, KnowsEnd, NextLineBy, has_next_by, left_of}
+use Rattle.lines.specs.Reading.{Waiting, IsReadToLongBy, IsReadWholeBy, KnowsEnd, NextLineBy, has_next_by, left_of}
 use Rattle.lines.proofs.ReadingLemmas.{taken-ended}
 
 -- a reader of lines with these bytes waiting
@@ -104,9 +104,9 @@ fewer = (
 )
 
 -- a program that read all lines has left out none, and its reader has no byte left
-whole : IsReadWhole (Some (codes "a\nb")) (Some []) (codes "a" ∷ codes "b" ∷ [])
-    × (IsReadWhole (Some (codes "a\nb")) (Some []) (codes "a" ∷ []) → ⊥)
-    × (IsReadWhole (Some (codes "a\nb")) (Some (98 ∷ [])) (codes "a" ∷ codes "b" ∷ []) → ⊥)
+whole : IsReadWholeBy 10 (Some (codes "a\nb")) (Some []) (codes "a" ∷ codes "b" ∷ [])
+    × (IsReadWholeBy 10 (Some (codes "a\nb")) (Some []) (codes "a" ∷ []) → ⊥)
+    × (IsReadWholeBy 10 (Some (codes "a\nb")) (Some (98 ∷ [])) (codes "a" ∷ codes "b" ∷ []) → ⊥)
 unfolding lines_by
 whole = (
   record { are_lines = refl; none_left = refl },
@@ -115,8 +115,8 @@ whole = (
 )
 
 -- the line behind the first has four bytes, which are more than three, and not more than four
-to_long : IsReadToLong 3 (Some (codes "a\nbcde\n")) (codes "a" ∷ [])
-    × (IsReadToLong 4 (Some (codes "a\nbcde\n")) (codes "a" ∷ []) → ⊥)
+to_long : IsReadToLongBy 10 3 (Some (codes "a\nbcde\n")) (codes "a" ∷ [])
+    × (IsReadToLongBy 10 4 (Some (codes "a\nbcde\n")) (codes "a" ∷ []) → ⊥)
 unfolding lines_by
 to_long = (
   record { long = codes "bcde"; later = []; cut = refl; is_long = omega arith },

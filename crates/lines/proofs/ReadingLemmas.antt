@@ -3,6 +3,7 @@ use Rattle.std.proofs.Common.{◌≡◌, ℕ, ◌<◌, ◌≤◌, Bool, true, fa
 use Rattle.std.specs.Prelude.{nat_lt, Ok, Err, OnErr, Result}
 use Rattle.std.proofs.lemmas.Bool.{le-ltb, not-true, both_ways}
 use Rattle.std.specs.Io.KnownBytes.{Consumes, IsAtEnd, Keeps, prepend_known}
+use Rattle.std.proofs.KnownBytes.{Consumes-kept, Consumes-nil, Consumes-trans, Keeps-refl, prepend_known-end}
 use Rattle.lines.specs.Lines.{has_no_end_by}
 use Rattle.lines.specs.Losing.{LosesPart}
 use Rattle.lines.specs.Pieces.{GrowsToEnd, GrowsByAll, GrowsTooLong}
@@ -20,15 +21,18 @@ taken-ended {end = end} {line = line} cut inside = record {
   last = inl (IsEnded-line end line inside);
 }
 
--- a last line that has no end
-pub taken-last : {end : ℕ} {old new : Option (List ℕ)} {line : List ℕ} → Consumes old new line
-    → has_no_end_by end line ≡ true → 0 < length line → IsAtEnd new → TakesLineBy end old new line
-taken-last {end = end} {line = line} cut inside some none = record {
-  taken = line;
-  cut = cut;
-  is_line = lines_by-last end line inside some;
-  last = inr none;
-}
+-- bytes at the front of a block were taken
+pub taken-front : (block part new : List ℕ) (rest : Option (List ℕ)) → block ≡ part ++ new
+    → Consumes (prepend_known block rest) (prepend_known new rest) part
+taken-front block part new None cut = tt
+taken-front block part new (Some y) cut = ap (λ l. l ++ y) cut ∙ append_assoc part new y
+
+-- a whole block was taken, and a new one was read
+taken-block : (block fresh : List ℕ) (rest left : Option (List ℕ)) → Consumes rest left fresh
+    → Consumes (prepend_known block rest) (prepend_known fresh left) block
+taken-block block fresh None left read = tt
+taken-block block fresh (Some y) None read = absurd read
+taken-block block fresh (Some y) (Some z) read = ap (λ l. block ++ l) read
 
 -- half-way through a line: its bytes so far were taken, none ends it, and they aren't too many
 pub record IsHalfway (end longest : ℕ) (old now : Option (List ℕ)) (line : List ℕ) : Type 0 where
@@ -36,35 +40,15 @@ pub record IsHalfway (end longest : ℕ) (old now : Option (List ℕ)) (line : L
   pub inside : has_no_end_by end line ≡ true
   pub short : length line ≤ longest
 
--- what holds holds of an error
-on-err : {X E P : Type 0} (result : Result X E) → P → OnErr result P
-on-err (Ok x) holds = tt
-on-err (Err error) holds = holds
-
 -- half-way through a line, its bytes so far are lost where reading it fails
 pub loses-half : {end longest : ℕ} {old : Option (List ℕ)} {block new line : List ℕ} {X E : Type 0}
     (result : Result X E) (rest : Option (List ℕ))
     → IsHalfway end longest old (prepend_known block rest) line → new ≡ block
     → OnErr result (LosesPart end old (prepend_known new rest))
-loses-half {end = end} {old = old} {line = line} result rest half same =
-    on-err result (subst (λ b. LosesPart end old (prepend_known b rest)) (sym same)
-    (record { lost = line; taken = half.taken; inside = half.inside }))
-
--- where bytes are kept none was taken
-pub kept-nothing : (old new : Option (List ℕ)) → Keeps old new → Consumes old new []
-kept-nothing None new same = tt
-kept-nothing (Some x) None same = absurd same
-kept-nothing (Some x) (Some y) same = sym same
-
--- nothing is left of a block, and a new one was read
-refilled : (old rest left : Option (List ℕ)) (block more line : List ℕ)
-    → Consumes old (prepend_known block rest) line → more ≡ line ++ block
-    → (fresh : List ℕ) → Consumes rest left fresh → Consumes old (prepend_known fresh left) more
-refilled None rest left block more line p q fresh r = tt
-refilled (Some x) None left block more line p q fresh r = absurd p
-refilled (Some x) (Some y) None block more line p q fresh r = absurd r
-refilled (Some x) (Some y) (Some z) block more line p q fresh r =
-    p ∙ sym (append_assoc line block y) ∙ ap (λ l. l ++ y) (sym q) ∙ ap (λ l. more ++ l) r
+loses-half (Ok x) rest half same = tt
+loses-half {end = end} {old = old} {line = line} (Err error) rest half same =
+    subst (λ b. LosesPart end old (prepend_known b rest)) (sym same)
+    (record { lost = line; taken = half.taken; inside = half.inside })
 
 module _ {end longest : ℕ} (old rest : Option (List ℕ)) {block line : List ℕ}
     (so_far : IsHalfway end longest old (prepend_known block rest) line) where
@@ -73,7 +57,10 @@ module _ {end longest : ℕ} (old rest : Option (List ℕ)) {block line : List �
       → (left : Option (List ℕ)) (fresh : List ℕ) → Consumes rest left fresh
       → IsHalfway end longest old (prepend_known fresh left) more
   halfway-more {more = more} all left fresh read = record {
-    taken = refilled old rest left block more line so_far.taken all.grows.joined fresh read;
+    taken =
+        subst (Consumes old (prepend_known fresh left)) (sym all.grows.joined)
+        (Consumes-trans old (prepend_known block rest) (prepend_known fresh left) line block
+        so_far.taken (taken-block block fresh rest left read));
     inside =
         ap (has_no_end_by end) all.grows.joined
         ∙ has_no_end-append end line block so_far.inside all.grows.inside;
@@ -85,50 +72,41 @@ module _ {end longest : ℕ} (old rest : Option (List ℕ)) {block line : List �
       (left : Option (List ℕ)) → GrowsByAll end longest block new line more → Keeps rest left
       → fresh ≡ [] → OnErr result (LosesPart end old (prepend_known fresh left))
   loses-more result left all kept none =
-      loses-half result left (halfway-more all left [] (kept-nothing rest left kept)) none
+      loses-half result left
+      (halfway-more all left [] (Consumes-kept rest rest left [] (Consumes-nil rest) kept)) none
 
   -- the line has its end
   pub takes-ended : {new more : List ℕ} → GrowsToEnd end longest block new line more
       → TakesShortBy end longest old (prepend_known new rest) more
-  takes-ended {new = new} {more = more} found = record {
-    takes =
-        taken-ended (at old rest so_far.taken)
-        (ap (has_no_end_by end) found.grows.joined
-        ∙ has_no_end-append end line found.part so_far.inside found.grows.inside);
-    short = found.grows.short;
-  }
-    where
-      at : (old rest : Option (List ℕ)) → Consumes old (prepend_known block rest) line
-          → Consumes old (prepend_known new rest) (more ++ end ∷ [])
-      at None rest p = tt
-      at (Some x) None p = absurd p
-      at (Some x) (Some y) p =
-          let part = found.part in
-          let joined : line ++ part ≡ more = sym found.grows.joined in
-          let all : line ++ (block ++ y) ≡ line ++ (part ++ end ∷ (new ++ y)) =
-          ap (λ l. line ++ l) (ap (λ l. l ++ y) found.cut ∙ append_assoc part (end ∷ new) y) in
-          p ∙ all ∙ sym (append_assoc line part (end ∷ (new ++ y)))
-          ∙ ap (λ l. l ++ end ∷ (new ++ y)) joined
-          ∙ sym (append_assoc more (end ∷ []) (new ++ y))
+  takes-ended {new = new} {more = more} found =
+      let part = found.part in
+      let cut : block ≡ (part ++ end ∷ []) ++ new =
+      found.cut ∙ sym (append_assoc part (end ∷ []) new) in
+      let text : line ++ (part ++ end ∷ []) ≡ more ++ end ∷ [] =
+      sym (append_assoc line part (end ∷ []))
+      ∙ ap (λ l. l ++ end ∷ []) (sym found.grows.joined) in
+      record {
+        takes =
+            taken-ended
+            (subst (Consumes old (prepend_known new rest)) text
+            (Consumes-trans old (prepend_known block rest) (prepend_known new rest) line
+            (part ++ end ∷ []) so_far.taken (taken-front block (part ++ end ∷ []) new rest cut)))
+            (ap (has_no_end_by end) found.grows.joined
+            ∙ has_no_end-append end line part so_far.inside found.grows.inside);
+        short = found.grows.short;
+      }
 
   -- the line is too long
   pub takes-long : {new : List ℕ} → GrowsTooLong end longest block new line
       → TakesLongBy end longest old (prepend_known new rest)
   takes-long {new = new} grows = record {
     taken = line ++ grows.part;
-    cut = at old rest so_far.taken;
+    cut =
+        Consumes-trans old (prepend_known block rest) (prepend_known new rest) line grows.part
+        so_far.taken (taken-front block grows.part new rest grows.cut);
     inside = has_no_end-append end line grows.part so_far.inside grows.inside;
     long = simp length-append (omega (arith, grows.long));
   }
-    where
-      at : (old rest : Option (List ℕ)) → Consumes old (prepend_known block rest) line
-          → Consumes old (prepend_known new rest) (line ++ grows.part)
-      at None rest p = tt
-      at (Some x) None p = absurd p
-      at (Some x) (Some y) p =
-          let part = grows.part in
-          p ∙ ap (λ l. line ++ l) (ap (λ l. l ++ y) grows.cut ∙ append_assoc part new y)
-          ∙ sym (append_assoc line part (new ++ y))
 
 -- a line that is told without a read: where all bytes that wait were moved to an empty line, and
 -- they were its first, the end was told
@@ -160,14 +138,16 @@ told-now {end} {began} {ended} {longest} stays (inr start) told all =
 module _ {end longest : ℕ} (old left : Option (List ℕ)) {line fresh : List ℕ}
     (so_far : IsHalfway end longest old (prepend_known fresh left) line) (none : fresh ≡ [])
     (over : IsAtEnd left) where
-  -- what is left of both is nothing
-  at-end : (left : Option (List ℕ)) → IsAtEnd left → IsAtEnd (prepend_known fresh left)
-  at-end None over = tt
-  at-end (Some y) over = ap (λ l. l ++ y) none ∙ over
-
   -- there is a last line
   pub takes-last : 0 < length line → TakesShortBy end longest old (prepend_known fresh left) line
   takes-last some = record {
-    takes = taken-last so_far.taken so_far.inside some (at-end left over);
+    takes = record {
+      taken = line;
+      cut = so_far.taken;
+      is_line = lines_by-last end line so_far.inside some;
+      last =
+          inr (prepend_known-end (prepend_known fresh left) left fresh
+          (Keeps-refl (prepend_known fresh left)) none over);
+    };
     short = so_far.short;
   }

@@ -18,10 +18,6 @@ TakesLinesBy end None new lines = Unit {0}
 TakesLinesBy end (Some old) None lines = ⊥
 TakesLinesBy end (Some old) (Some new) lines = HasTakenLinesBy end old new lines
 
--- the same where byte 10 ends a line
-abbrev pub TakesLines : Option (List ℕ) → Option (List ℕ) → List (List ℕ) → Type 0
-TakesLines old new lines = TakesLinesBy 10 old new lines
-
 -- what is joined to nothing is nothing
 pub nil-front : (xs ys : List ℕ) → xs ++ ys ≡ [] → xs ≡ []
 nil-front [] ys none = refl

@@ -1,13 +1,13 @@
 -- A line that waits whole among the bytes that were read.
-use Rattle.std.proofs.Common.{◌≡◌, ℕ, ◌+◌, ◌<◌, ◌≤◌, suc, true, List, [], ◌∷◌, ◌++◌, length, take, drop, Option, Some, None, sym, ◌∙◌, ◌⊎◌, ap, append_assoc, arith, inl, inr}
+use Rattle.std.proofs.Common.{◌≡◌, ℕ, ◌+◌, ◌<◌, ◌≤◌, suc, true, List, [], ◌∷◌, ◌++◌, length, take, drop, Option, sym, ◌∙◌, ◌⊎◌, ap, append_assoc, arith, inl, inr}
 use Rattle.std.proofs.lemmas.Bool.{both_ways, cases_lt}
 use Rattle.std.proofs.lemmas.List.{get_or-take, length-take-le}
 use Rattle.std.proofs.Math.Seq.{split_at}
-use Rattle.std.specs.Io.KnownBytes.{Consumes, prepend_known}
+use Rattle.std.specs.Io.KnownBytes.{prepend_known}
 use Rattle.lines.specs.Lines.{has_no_end_by}
 use Rattle.lines.specs.Reading.{CutsLineBy, HasEndAtBy, TakesShortBy}
 use Rattle.lines.proofs.LineLemmas.{has_no_end-not}
-use Rattle.lines.proofs.ReadingLemmas.{taken-ended}
+use Rattle.lines.proofs.ReadingLemmas.{taken-ended, taken-front}
 
 -- the bytes are the first line, its end, and the rest
 whole-cut : {end longest n : ℕ} {bytes rest line : List ℕ}
@@ -26,7 +26,11 @@ pub takes-whole : {end longest n : ℕ} {bytes rest line : List ℕ} (left : Opt
     → CutsLineBy end longest bytes rest line n
     → TakesShortBy end longest (prepend_known bytes left) (prepend_known rest left) line
 takes-whole {end} {longest} {n} {bytes} {rest} {line} left cut = record {
-  takes = taken-ended (at left) (ap (has_no_end_by end) cut.is_line ∙ cut.ends.inside);
+  takes =
+      taken-ended
+      (taken-front bytes (line ++ end ∷ []) rest left
+      (whole-cut cut ∙ sym (append_assoc line (end ∷ []) rest)))
+      (ap (has_no_end_by end) cut.is_line ∙ cut.ends.inside);
   short =
       omega (
         arith,
@@ -35,13 +39,6 @@ takes-whole {end} {longest} {n} {bytes} {rest} {line} left cut = record {
         cut.short,
       );
 }
-  where
-    at : (left : Option (List ℕ))
-        → Consumes (prepend_known bytes left) (prepend_known rest left) (line ++ end ∷ [])
-    at None = tt
-    at (Some y) =
-        ap (λ l. l ++ y) (whole-cut cut) ∙ append_assoc line (end ∷ rest) y
-        ∙ sym (append_assoc line (end ∷ []) (rest ++ y))
 
 -- where the first line is too long, it is so wherever its end is found
 pub ends-past : {end longest m : ℕ} {bytes : List ℕ} → HasEndAtBy end bytes m → longest < m

@@ -59,14 +59,3 @@ module _ (text rest : List ℕ) (from to : Option (List ℕ)) (so_far : IsWritin
       where
         few : length (drop n rest) ≤ length rest - n
         few = omega (arith, length-drop n rest)
-
-    -- nothing more was written
-    pub writing-part : (end : Option (List ℕ)) → Appends to end [] → AppendsPart text from end
-    writing-part end none = record {
-      written = so_far.written ++ [];
-      appended = Appends-trans from to end so_far.written [] so_far.appended none;
-      begins = record {
-        rest = rest;
-        cut = so_far.cut ∙ ap (λ l. l ++ rest) (sym (append-nil so_far.written));
-      };
-    }

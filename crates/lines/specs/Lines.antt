@@ -27,11 +27,3 @@ IsEndedBy end bytes =
 -- the lines that byte 10 ends
 abbrev pub lines_of : List ℕ → List (List ℕ)
 lines_of bytes = lines_by 10 bytes
-
--- whether no byte is 10
-abbrev pub has_no_end : List ℕ → Bool
-has_no_end bytes = has_no_end_by 10 bytes
-
--- what comes after these bytes is split into lines of its own, where byte 10 ends a line
-abbrev pub IsEnded : List ℕ → Type 0
-IsEnded bytes = IsEndedBy 10 bytes

@@ -1,6 +1,5 @@
 -- What reading one line takes, and what a program read that took one line after the other. What a
--- reader has left is Some of the bytes, or None where it doesn't tell. A name with `by` takes first
--- the byte that ends a line; the same name without it is the case of byte 10.
+-- reader has left is Some of the bytes, or None where it doesn't tell. The byte `end` ends a line.
 use Rattle.std.specs.Prelude.{◌≡◌, ◌⊎◌, ℕ, ◌+◌, ◌<◌, ◌≤◌, List, [], ◌∷◌, ◌++◌, length, take, drop, slice_index, Bool, true, not, nat_lt, ◌||◌, All, Option, Some, IfSome}
 use Rattle.std.specs.Io.KnownBytes.{Consumes, IsAtEnd, prepend_known}
 use Rattle.lines.specs.declared.reader.Next.{Next}
@@ -78,8 +77,7 @@ AreShort longest lines = All (λ line. length line ≤ longest) lines
 -- what the next line came to
 abbrev pub NextLineBy : ℕ → ℕ → Option (List ℕ) → Option (List ℕ) → List ℕ → Next → Type 0
 NextLineBy end longest old new line End = Ends old new
-NextLineBy end longest old new line Line =
-    record { takes : TakesLineBy end old new line; short : length line ≤ longest }
+NextLineBy end longest old new line Line = TakesShortBy end longest old new line
 NextLineBy end longest old new line TooLong = TakesLongBy end longest old new
 
 -- these are all lines of the bytes, and the reader is at its end
@@ -113,35 +111,3 @@ pub record AreBeforeLongBy (end longest : ℕ) (bytes : List ℕ) (lines : List 
 abbrev pub IsReadToLongBy : ℕ → ℕ → Option (List ℕ) → List (List ℕ) → Type 0
 IsReadToLongBy end longest read lines =
     IfSome read (λ bytes. AreBeforeLongBy end longest bytes lines)
-
--- whether the next line is told, where byte 10 ends a line
-abbrev pub has_next : Waiting → Bool
-has_next waiting = has_next_by 10 waiting
-
--- one line was taken that byte 10 ends
-abbrev pub TakesLine : Option (List ℕ) → Option (List ℕ) → List ℕ → Type 0
-TakesLine old new line = TakesLineBy 10 old new line
-
--- more of a line that byte 10 ends was taken than it may have
-abbrev pub TakesLong : ℕ → Option (List ℕ) → Option (List ℕ) → Type 0
-TakesLong longest old new = TakesLongBy 10 longest old new
-
--- a line was taken that byte 10 ends and that is short enough
-abbrev pub TakesShort : ℕ → Option (List ℕ) → Option (List ℕ) → List ℕ → Type 0
-TakesShort longest old new line = TakesShortBy 10 longest old new line
-
--- what the next line came to, where byte 10 ends a line
-abbrev pub NextLine : ℕ → Option (List ℕ) → Option (List ℕ) → List ℕ → Next → Type 0
-NextLine longest old new line next = NextLineBy 10 longest old new line next
-
--- these are all lines that byte 10 ends
-abbrev pub IsReadWhole : Option (List ℕ) → Option (List ℕ) → List (List ℕ) → Type 0
-IsReadWhole read left lines = IsReadWholeBy 10 read left lines
-
--- these are the first lines that byte 10 ends
-abbrev pub IsReadFrom : Option (List ℕ) → List (List ℕ) → Type 0
-IsReadFrom read lines = IsReadFromBy 10 read lines
-
--- the line after these is too long, where byte 10 ends a line
-abbrev pub IsReadToLong : ℕ → Option (List ℕ) → List (List ℕ) → Type 0
-IsReadToLong longest read lines = IsReadToLongBy 10 longest read lines

@@ -4,7 +4,7 @@ ghost use Rattle.std.specs.Io.KnownBytes.{Keeps};
 ghost use Rattle.bloom_engine.specs.Faults.{IsOfStream};
 ghost use Rattle.bloom_engine.specs.Lines.{longest_line};
 ghost use Rattle.bloom_engine.specs.Reading.{Asks, NextCommand};
-ghost use Rattle.lines.specs.Reading.{KnowsEnd, has_next, left_of};
+ghost use Rattle.lines.specs.Reading.{KnowsEnd, has_next_by, left_of};
 
 use crate::engine::line::{Line, parse};
 use crate::fault::Fault;
@@ -57,7 +57,7 @@ pub fn next_command<R: Read, W: Write>(
     ensures knows { KnowsEnd lines.new.ended (R.remaining input.new) }
     ensures limit { lines.new.longest ≡ longest_line }
     // The reader isn't asked where the next line is told without it, nor after its end.
-    ensures quiet { has_next lines.old ≡ true → input.new ≡ input.old }
+    ensures quiet { has_next_by 10 lines.old ≡ true → input.new ≡ input.old }
     ensures kept { Keeps (W.contents output.old) (W.contents output.new) }
     ensures fault { IfErr result IsOfStream }
 {

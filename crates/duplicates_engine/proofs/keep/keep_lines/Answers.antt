@@ -1,26 +1,22 @@
 use Rattle.std.proofs.Common.{◌≡◌, sym, ◌∙◌, ap, rules, Err, Ok}
-use Rattle.std.proofs.KnownBytes.{Keeps-refl}
-use Rattle.duplicates_engine.proofs.Common.{left_of, FailsBehind, limit_of}
+use Rattle.duplicates_engine.proofs.Common.{Memory, left_of, limit_of}
 use Rattle.duplicates_engine.proofs.AheadLemmas.{looked-next, looked-none, looked-opened, looked-same}
-use Rattle.duplicates_engine.proofs.CauseLemmas.{opening-system, step-system, refusal-system, caused-first, caused-step, caused-line, caused-writer}
-use Rattle.duplicates_engine.proofs.EndLemmas.{behind-read}
-use Rattle.duplicates_engine.proofs.KeepingLemmas.{keeping-first, keeps-none, until-none, keeps-all, until-fault, until-long, keeping-next}
-use Rattle.duplicates_engine.proofs.LineStepLemmas.{keeping-more, until-writer, next-first}
+use Rattle.duplicates_engine.proofs.CauseLemmas.{opening-system, refusal-system, caused-first, caused-line}
+use Rattle.duplicates_engine.proofs.EndLemmas.{first-none, first-read, none-read}
+use Rattle.duplicates_engine.proofs.KeepingLemmas.{keeping-first, keeping-next, keeps-all, kept_now, ends-long, ends-step}
+use Rattle.duplicates_engine.proofs.KeptLemmas.{kept-none, keeps-new, ends-behind}
+use Rattle.duplicates_engine.proofs.LineStepLemmas.{keeping-more, ends-writer, next-first}
 use Rattle.duplicates_engine.proofs.keep.keep_lines.Goals as goal
 
 pub returns-in_err-input-clause-fault : goal.returns-in_err-input-clause-fault
-unfolding until-none
 returns-in_err-input-clause-fault g c =
     let same : c.from_residual.result ≡ Err c.in_err-input.field-0.0 = search rules in
+    let is = c.in_err-input.ensures.fault in
     rw same
-    (record {
-      until =
-          until-none g.V.Sieve g.row.END c.args.options _ _ _ _
-          (opening-system g.I.Inputs.fails _ _ _ c.in_err-input.ensures.fault);
-      caused =
-          caused-first g.V.Sieve.refuses g.I.Inputs.fails g.row.END c.args.options.longest _ _ _ _ _
-          c.in_err-input.ensures.fault;
-    })
+    (ends-behind (kept-none g.V.Sieve g.row.END c.args.options _ _) g.I.Inputs.fails _ _ _
+    (opening-system g.I.Inputs.fails _ _ _ is) (first-none g.row.END _)
+    (caused-first g.V.Sieve.refuses g.I.Inputs.fails g.row.END c.args.options.longest _ _ _ _ _
+    is))
 
 pub returns-in_err-opened-clause-fault : goal.returns-in_err-opened-clause-fault
 returns-in_err-opened-clause-fault g c =
@@ -28,15 +24,13 @@ returns-in_err-opened-clause-fault g c =
     search rules in
     rw same
     (rw c.in_err-opened.ensures.fault
-    (record {
-      until = until-none g.V.Sieve g.row.END c.args.options _ _ _ _ tt;
-      caused = tt;
-    }))
+    (ends-behind (kept-none g.V.Sieve g.row.END c.args.options _ _) g.I.Inputs.fails _ _ Memory tt
+    (first-none g.row.END _) tt))
 
 pub returns-in_default-clause-all : goal.returns-in_default-clause-all
 returns-in_default-clause-all g c =
-    keeps-none g.V.Sieve g.row.END c.args.options _ _ _ _
-    (rw c.in_default.is at c.in_ok-input.ensures.opened)
+    keeps-new (kept-none g.V.Sieve g.row.END c.args.options _ _) _ _
+    (none-read g.row.END _ _ (rw c.in_default.is at c.in_ok-input.ensures.opened))
 
 pub steps-init : goal.steps-init
 steps-init g c = record {
@@ -47,36 +41,23 @@ steps-init g c = record {
 }
 
 pub returns-in_err-next_step-clause-fault : goal.returns-in_err-next_step-clause-fault
-unfolding until-fault
 returns-in_err-next_step-clause-fault g c =
     let same : c.from_residual-in_err-next_step.result ≡ Err c.in_err-next_step.field-0.0 =
     search rules in
-    let is = c.in_err-next_step.ensures.fault in
     rw same
-    (record {
-      until =
-          until-fault g.V.Sieve g.row.END c.args.options _ _ _ c.steps.invariant.keeping _
-          c.next_step.ensures.kept _
-          (step-system
-          (FailsBehind g.I.Inputs.fails
-          (left_of c.steps.opened.lines (g.I.Input.Read.remaining c.steps.input))
-          c.steps.inputs c.next_step.new.inputs) _ is);
-      caused =
-          caused-step g.V.Sieve.refuses g.I.Inputs.fails g.row.END c.args.options.longest _ _ _ _ _
-          _ _ is
-          (λ last ends. behind-read g.row.END _ _ _ _ _ _ c.steps.invariant.keeping.reading ends);
-    })
+    (ends-step c.steps.invariant.keeping _ c.next_step.ensures.kept g.I.Inputs.fails _ _ _
+    c.in_err-next_step.ensures.fault)
 
 pub returns-in-End-clause-all : goal.returns-in-End-clause-all
 returns-in-End-clause-all g c =
-    keeps-all g.V.Sieve g.row.END c.args.options _ _ _ c.steps.invariant.keeping _
-    c.next_step.ensures.kept _ (rw c.in-End.is at c.in_ok-next_step.ensures.step)
+    keeps-all c.steps.invariant.keeping _ c.next_step.ensures.kept _
+    (rw c.in-End.is at c.in_ok-next_step.ensures.step)
 
 pub steps-preserved-in-Opened : goal.steps-preserved-in-Opened
 steps-preserved-in-Opened g c = record {
   keeping =
-      keeping-next g.V.Sieve g.row.END c.args.options _ _ _ c.steps.invariant.keeping _
-      c.next_step.ensures.kept _ _ _ _ (rw c.in-Opened.is at c.in_ok-next_step.ensures.step)
+      keeping-next c.steps.invariant.keeping _ c.next_step.ensures.kept _ _ _ _
+      (rw c.in-Opened.is at c.in_ok-next_step.ensures.step)
       c.in_ok-next_step.ensures.knows c.in_ok-next_step.ensures.limit;
   looked =
       looked-opened (g.V.Sieve.has_hash c.steps.sieve) g.row.END (limit_of c.args.options) _
@@ -90,70 +71,46 @@ steps-preserved-in-Opened g c = record {
 
 pub returns-in-TooLong-clause-fault : goal.returns-in-TooLong-clause-fault
 returns-in-TooLong-clause-fault g c =
-    record {
-      until =
-          until-long g.V.Sieve g.row.END c.args.options _ _ _ c.steps.invariant.keeping _
-          c.next_step.ensures.kept
-          (left_of c.next_step.new.opened.lines
-          (g.I.Input.Read.remaining c.next_step.new.input)) _ _
-          (rw c.in-TooLong.is at c.in_ok-next_step.ensures.step) c.saturating_add.ensures;
-      caused = tt;
-    }
+    ends-long c.steps.invariant.keeping _ c.next_step.ensures.kept g.I.Inputs.fails _
+    (left_of c.next_step.new.opened.lines (g.I.Input.Read.remaining c.next_step.new.input)) _ _
+    (rw c.in-TooLong.is at c.in_ok-next_step.ensures.step) c.saturating_add.ensures
 
 pub returns-clause-fault : goal.returns-clause-fault
 returns-clause-fault g c =
-    record {
-      until =
-          until-fault g.V.Sieve g.row.END c.args.options _ _ _ c.steps.invariant.keeping _
-          (Keeps-refl (g.W.Write.contents c.steps.output)) _ tt;
-      caused = λ same. cc;
-    }
+    ends-behind c.steps.invariant.keeping.kept g.I.Inputs.fails _ _ _ tt
+    (first-read c.steps.invariant.keeping.reading) (λ same. cc)
 
 pub returns-in_err-is_held-clause-fault : goal.returns-in_err-is_held-clause-fault
-unfolding until-fault
 returns-in_err-is_held-clause-fault g c =
     let same : c.from_residual-in_err-is_held.result ≡ Err c.in_err-is_held.field-0.0 =
     search rules in
     let is = c.in_err-is_held.ensures.refused in
     rw (same, c.in_err-is_held.ensures.same)
-    (record {
-      until =
-          until-fault g.V.Sieve g.row.END c.args.options _ _ _ c.steps.invariant.keeping _
-          c.next_step.ensures.kept _ (refusal-system g.V.Sieve.refuses _ _ _ is);
-      caused =
-          caused-line g.V.Sieve.refuses g.I.Inputs.fails g.row.END c.args.options.longest _ _ _ _
-          _ _
-          (next-first g.V.Sieve g.row.END c.args.options _ _ _ c.steps.invariant.keeping _
-          c.next_step.ensures.kept c.next_step.new.opened.lines _ _ _
-          (rw c.in-Line.is at c.in_ok-next_step.ensures.step) c.line-line.ensures)
-          c.in_err-is_held.ensures.short is;
-    })
+    (ends-behind (kept_now c.steps.invariant.keeping _ c.next_step.ensures.kept)
+    g.I.Inputs.fails _ _ _ (refusal-system g.V.Sieve.refuses _ _ _ is)
+    (first-read c.steps.invariant.keeping.reading)
+    (caused-line g.V.Sieve.refuses g.I.Inputs.fails g.row.END c.args.options.longest _ _ _ _ _ _
+    (next-first c.steps.invariant.keeping _ c.next_step.ensures.kept c.next_step.new.opened.lines
+    _ _ _ (rw c.in-Line.is at c.in_ok-next_step.ensures.step) c.line-line.ensures)
+    c.in_err-is_held.ensures.short is))
 
 pub returns-in_err-put_chosen-clause-fault : goal.returns-in_err-put_chosen-clause-fault
-unfolding until-writer
 returns-in_err-put_chosen-clause-fault g c =
     let same : c.from_residual-in_err-put_chosen.result ≡ Err c.in_err-put_chosen.field-0.0 =
     search rules in
-    let wrote = rw c.in_err-put_chosen.was at c.put_chosen.ensures in
     rw same
-    (record {
-      until =
-          until-writer g.V.Sieve g.row.END c.args.options _ _ _ c.steps.invariant.keeping _
-          c.next_step.ensures.kept c.next_step.new.opened.lines _ _ _
-          (rw c.in-Line.is at c.in_ok-next_step.ensures.step) c.line-line.ensures
-          c.in_ok-is_held.ensures.sifted (g.met.V.Sieve.none _) c.in_ok-is_held.ensures.new
-          c.in_ok-is_held.ensures.taken c.in_ok-is_held.ensures.span
-          (rw c.is_longer.ensures at c.count_line.ensures) _ _ wrote;
-      caused =
-          caused-writer g.V.Sieve.refuses g.I.Inputs.fails g.row.END c.args.options.longest _ _ _ _
-          _ wrote.told.0;
-    })
+    (ends-writer c.steps.invariant.keeping _ c.next_step.ensures.kept c.next_step.new.opened.lines
+    _ _ _ (rw c.in-Line.is at c.in_ok-next_step.ensures.step) c.line-line.ensures
+    c.in_ok-is_held.ensures.sifted (g.met.V.Sieve.none _) c.in_ok-is_held.ensures.new
+    c.in_ok-is_held.ensures.taken c.in_ok-is_held.ensures.span
+    (rw c.is_longer.ensures at c.count_line.ensures) g.I.Inputs.fails _ _ _
+    (rw c.in_err-put_chosen.was at c.put_chosen.ensures))
 
 pub steps-preserved : goal.steps-preserved
 steps-preserved g c = record {
   keeping =
-      keeping-more g.V.Sieve g.row.END c.args.options _ _ _ c.steps.invariant.keeping _
-      c.next_step.ensures.kept c.next_step.new.opened.lines _ _ _
+      keeping-more c.steps.invariant.keeping _ c.next_step.ensures.kept
+      c.next_step.new.opened.lines _ _ _
       (rw c.in-Line.is at c.in_ok-next_step.ensures.step) c.line-line.ensures
       c.in_ok-is_held.ensures.sifted (g.met.V.Sieve.none _) c.in_ok-is_held.ensures.new
       c.in_ok-is_held.ensures.taken c.in_ok-is_held.ensures.span

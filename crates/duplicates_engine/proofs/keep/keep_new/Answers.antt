@@ -1,4 +1,5 @@
-use Rattle.duplicates_engine.proofs.ChoiceLemmas.{choice-err, choice-ok, writes-until}
+use Rattle.std.proofs.lemmas.Result.{IfErr-weaker, IfOk-weaker}
+use Rattle.duplicates_engine.proofs.ChoiceLemmas.{writes-choice, writes-until}
 use Rattle.duplicates_engine.proofs.FlushLemmas.{all-flushed, broken, ends-flushed}
 use Rattle.duplicates_engine.proofs.keep.keep_new.Goals as goal
 
@@ -19,11 +20,13 @@ returns-in-Err-clause-fault g c =
 
 pub returns-in-Ok-clause-choice : goal.returns-in-Ok-clause-choice
 returns-in-Ok-clause-choice g c =
-    choice-ok g.V.Sieve g.row.END c.args.options _ _ _ _ _ _ _ (returns-in-Ok-clause-all g c)
+    IfOk-weaker c.keep_lines-kept.result _ _
+    (writes-choice g.V.Sieve g.row.END c.args.options _ _ _ _ _ _) (returns-in-Ok-clause-all g c)
 
 pub returns-in-Ok-clause-choice_until : goal.returns-in-Ok-clause-choice_until
 returns-in-Ok-clause-choice_until g c =
-    choice-err g.V.Sieve g.row.END c.args.options _ _ _ _ _ g.I.Inputs.fails _ _
+    IfErr-weaker c.keep_lines-kept.result _ _ (λ fault ends.
+    writes-until g.V.Sieve g.row.END c.args.options _ _ _ _ _ fault ends.until)
     (returns-in-Ok-clause-fault g c)
 
 pub returns-in-Err-clause-choice_until : goal.returns-in-Err-clause-choice_until
