@@ -34,13 +34,9 @@ fn parts_of(alloc: Global, keys: u64, parts: u64) -> Result<Vec<Vec<u64>>, Alloc
 }
 
 /// The rows of one, two and four workers.
-pub const TABLE: [Rows<()>; 1] = [(
-    (),
-    "fill by workers:",
-    &[1, 2, 4],
-    Unit::Key,
-    "found after it",
-)];
+pub const TABLE: [Rows<()>; 1] = [
+    row! { (), "fill by workers:", &[1, 2, 4] => Key, "found after it" },
+];
 
 /// The hashes of the keys, in a part for each worker.
 #[derive(Drop)]

@@ -5,6 +5,13 @@
 //! best round tells what one operation costs.
 #![tactic(auto)]
 
+// A row of a table: a call, its name, its numbers, what an operation is for, and what is counted.
+macro_rules! row {
+    ($call:expr, $name:literal, $numbers:expr => $unit:ident, $counted:expr) => {
+        ($call, $name, $numbers, Unit::$unit, $counted)
+    };
+}
+
 mod fills;
 mod filters;
 mod keys;

@@ -132,34 +132,10 @@ const THREADS: &'static [u32] = &[1, 2, 4];
 
 /// The rows of shared and of seated filters by one, two and four threads.
 pub const TABLE: [Rows<(Party, Job)>; 4] = [
-    (
-        (Party::Sharers, Job::Insert),
-        "insert by threads:",
-        THREADS,
-        Unit::Key,
-        "true",
-    ),
-    (
-        (Party::Sharers, Job::Hit),
-        "hit by threads:",
-        THREADS,
-        Unit::Key,
-        "true",
-    ),
-    (
-        (Party::Seats, Job::Insert),
-        "seated insert by threads:",
-        THREADS,
-        Unit::Key,
-        "true",
-    ),
-    (
-        (Party::Seats, Job::Hit),
-        "seated hit by threads:",
-        THREADS,
-        Unit::Key,
-        "true",
-    ),
+    row! { (Party::Sharers, Job::Insert), "insert by threads:", THREADS => Key, "true" },
+    row! { (Party::Sharers, Job::Hit), "hit by threads:", THREADS => Key, "true" },
+    row! { (Party::Seats, Job::Insert), "seated insert by threads:", THREADS => Key, "true" },
+    row! { (Party::Seats, Job::Hit), "seated hit by threads:", THREADS => Key, "true" },
 ];
 
 /// The workers on one filter with seven hashes.

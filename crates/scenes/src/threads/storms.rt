@@ -31,103 +31,60 @@ enum End {
     Alone,
 }
 
+// A storm, and what each of its threads does.
+macro_rules! storm {
+    (
+        $name:literal, $bits:expr, $num_hashes:literal, $seed:literal, $before:literal, $end:ident;
+        $([$act:ident $(($position:literal))? $first:literal to $last:literal])+
+    ) => {
+        Storm {
+            name: $name,
+            bits: $bits,
+            num_hashes: $num_hashes,
+            seed: $seed,
+            before: $before,
+            tasks: &[$((Act::$act $(($position))?, $first, $last)),+],
+            end: End::$end,
+        }
+    };
+}
+
 const STORMS: &'static [Storm] = &[
-    Storm {
-        name: "four threads insert the same hashes",
-        bits: 4096,
-        num_hashes: 1,
-        seed: 0,
-        before: 0,
-        tasks: &[(Act::Insert, 0, 1000); 4],
-        end: End::Alone,
+    storm! {
+        "four threads insert the same hashes", 4096, 1, 0, 0, Alone;
+        [Insert 0 to 1000] [Insert 0 to 1000] [Insert 0 to 1000] [Insert 0 to 1000]
     },
-    Storm {
-        name: "two threads insert items that they share",
-        bits: 128,
-        num_hashes: 2,
-        seed: 42,
-        before: 0,
-        tasks: &[(Act::InsertItem, 1, 3), (Act::InsertItem, 2, 4)],
-        end: End::Alone,
+    storm! {
+        "two threads insert items that they share", 128, 2, 42, 0, Alone;
+        [InsertItem 1 to 3] [InsertItem 2 to 4]
     },
     // Most positions stay clear.
-    Storm {
-        name: "what was inserted is found beside three that insert",
-        bits: 1 << 20,
-        num_hashes: 3,
-        seed: 0,
-        before: 100,
-        tasks: &[
-            (Act::Insert, 0, 50_000),
-            (Act::Insert, 0, 50_000),
-            (Act::Insert, 0, 50_000),
-            (Act::Find, 0, 100_000),
-        ],
-        end: End::Alone,
+    storm! {
+        "what was inserted is found beside three that insert", 1 << 20, 3, 0, 100, Alone;
+        [Insert 0 to 50_000] [Insert 0 to 50_000] [Insert 0 to 50_000] [Find 0 to 100_000]
     },
-    Storm {
-        name: "what was inserted is found when the filter was let go",
-        bits: 1 << 20,
-        num_hashes: 3,
-        seed: 0,
-        before: 100,
-        tasks: &[(Act::Find, 0, 200_000)],
-        end: End::LetGo,
+    storm! {
+        "what was inserted is found when the filter was let go", 1 << 20, 3, 0, 100, LetGo;
+        [Find 0 to 200_000]
     },
-    Storm {
-        name: "calls that are drawn, beside clones and data",
-        bits: 1024,
-        num_hashes: 3,
-        seed: 0,
-        before: 0,
-        tasks: &[
-            (Act::Call, 0, 10_000),
-            (Act::Call, 10_000, 20_000),
-            (Act::Call, 20_000, 30_000),
-            (Act::Call, 30_000, 40_000),
-            (Act::Call, 40_000, 50_000),
-            (Act::Call, 50_000, 60_000),
-            (Act::Call, 60_000, 70_000),
-            (Act::Call, 70_000, 80_000),
-            (Act::Clone, 0, 1000),
-            (Act::Data, 0, 1000),
-        ],
-        end: End::Kept,
+    storm! {
+        "calls that are drawn, beside clones and data", 1024, 3, 0, 0, Kept;
+        [Call 0 to 10_000] [Call 10_000 to 20_000] [Call 20_000 to 30_000]
+        [Call 30_000 to 40_000] [Call 40_000 to 50_000] [Call 50_000 to 60_000]
+        [Call 60_000 to 70_000] [Call 70_000 to 80_000] [Clone 0 to 1000] [Data 0 to 1000]
     },
     // Each thread that inserts has half of its hashes in common with the next.
-    Storm {
-        name: "inserts and takes lose no bit",
-        bits: 1024,
-        num_hashes: 1,
-        seed: 0,
-        before: 0,
-        tasks: &[
-            (Act::Insert, 0, 20_000),
-            (Act::Insert, 10_000, 30_000),
-            (Act::Insert, 20_000, 40_000),
-            (Act::Insert, 30_000, 50_000),
-            (Act::Insert, 40_000, 60_000),
-            (Act::Take, 0, 2000),
-            (Act::Take, 0, 2000),
-            (Act::Take, 0, 2000),
-        ],
-        end: End::Kept,
+    storm! {
+        "inserts and takes lose no bit", 1024, 1, 0, 0, Kept;
+        [Insert 0 to 20_000] [Insert 10_000 to 30_000] [Insert 20_000 to 40_000]
+        [Insert 30_000 to 50_000] [Insert 40_000 to 60_000]
+        [Take 0 to 2000] [Take 0 to 2000] [Take 0 to 2000]
     },
     // Whatever the order of the steps, each thread sees its own position change as it alone changes
     // it, since every other step leaves it as it is. In the end all are clear.
-    Storm {
-        name: "each of four threads has a bit of its own in one word",
-        bits: 64,
-        num_hashes: 1,
-        seed: 0,
-        before: 0,
-        tasks: &[
-            (Act::Flip(0), 0, 20),
-            (Act::Flip(1), 0, 20),
-            (Act::Flip(2), 0, 20),
-            (Act::Flip(3), 0, 20),
-        ],
-        end: End::Kept,
+    storm! {
+        "each of four threads has a bit of its own in one word", 64, 1, 0, 0, Kept;
+        [Flip(0) 0 to 20] [Flip(1) 0 to 20] [Flip(2) 0 to 20] [Flip(3) 0 to 20]
     },
 ];
 

@@ -6,39 +6,27 @@ use super::Asked::{Flush, Open, Read, Write};
 /// and where it is read.
 pub(super) type File = (usize, usize, &'static [Asked], &'static [Asked]);
 
+// A row: what is asked where a file is written, and where it is read.
+macro_rules! file {
+    ($words:literal by $piece:expr => $($written:expr),+; $($read:expr),+) => {
+        ($words, $piece, &[$($written),+], &[$($read),+])
+    };
+}
+
 /// A head has 64 bytes, and a block 512 words. The last read finds the end.
 pub(super) const FILES: &'static [File] = &[
-    (
-        8,
-        usize::MAX,
-        &[Write(64), Write(64)],
-        &[Read(64), Read(64), Read(1)],
-    ),
-    (
-        512,
-        usize::MAX,
-        &[Write(64), Write(4096)],
-        &[Read(64), Read(4096), Read(1)],
-    ),
-    (
-        1032,
-        usize::MAX,
-        &[Write(64), Write(4096), Write(4096), Write(64)],
-        &[Read(64), Read(4096), Read(4096), Read(64), Read(1)],
-    ),
-    (
-        520,
-        2000,
-        &[Write(64), Write(4096), Write(64)],
-        &[
-            Read(64),
-            Read(4096),
-            Read(2096),
-            Read(96),
-            Read(64),
-            Read(1),
-        ],
-    ),
+    file! { 8 by usize::MAX => Write(64), Write(64); Read(64), Read(64), Read(1) },
+    file! { 512 by usize::MAX => Write(64), Write(4096); Read(64), Read(4096), Read(1) },
+    file! {
+        1032 by usize::MAX =>
+        Write(64), Write(4096), Write(4096), Write(64);
+        Read(64), Read(4096), Read(4096), Read(64), Read(1)
+    },
+    file! {
+        520 by 2000 =>
+        Write(64), Write(4096), Write(64);
+        Read(64), Read(4096), Read(2096), Read(96), Read(64), Read(1)
+    },
 ];
 
 /// What is asked where the text of a filter is written.
@@ -63,141 +51,50 @@ pub(super) enum Engine {
 /// What runs, its input, and the most bytes of a read; what is asked.
 pub(super) type Row = (Engine, &'static str, usize, &'static [Asked]);
 
+// A row.
+macro_rules! run {
+    ($engine:ident $input:literal by $piece:expr => $($asked:expr),+) => {
+        (Engine::$engine, $input, $piece, &[$($asked),+])
+    };
+}
+
 /// A reply of `serve` is `false` or `true`, and a word has 16 digits, each with its line's end. The
 /// others write a line and then its end.
 pub(super) const ROWS: &'static [Row] = &[
-    (
-        Engine::Serve,
-        "i 1\nc 1\nw\n",
-        usize::MAX,
-        &[BLOCK, Write(6), Write(5), Write(17), Flush, BLOCK],
-    ),
-    (
-        Engine::Serve,
-        "i 1\nc 1\nw\n",
-        4,
-        &[
-            BLOCK,
-            Write(6),
-            Flush,
-            BLOCK,
-            Write(5),
-            Flush,
-            BLOCK,
-            Write(17),
-            Flush,
-            BLOCK,
-        ],
-    ),
-    (
-        Engine::Serve,
-        "i 1\nc 1",
-        6,
-        &[BLOCK, Write(6), Flush, BLOCK, BLOCK, Write(5), Flush],
-    ),
-    (
-        Engine::Serve,
-        "w\nc 1\nw\n",
-        6,
-        &[
-            BLOCK,
-            Write(17),
-            Write(6),
-            Flush,
-            BLOCK,
-            Write(17),
-            Flush,
-            BLOCK,
-        ],
-    ),
-    (
-        Engine::Keep,
-        "ab\nab\nc\n",
-        usize::MAX,
-        &[
-            Open,
-            BLOCK,
-            Write(2),
-            Write(1),
-            Write(1),
-            Write(1),
-            Flush,
-            BLOCK,
-            Open,
-        ],
-    ),
-    (
-        Engine::Keep,
-        "ab\nc",
-        3,
-        &[
-            Open,
-            BLOCK,
-            Write(2),
-            Write(1),
-            Flush,
-            BLOCK,
-            BLOCK,
-            Write(1),
-            Write(1),
-            Flush,
-            Open,
-        ],
-    ),
-    (
-        Engine::Keep,
-        "abc\nabc\nd\n",
-        4,
-        &[
-            Open,
-            BLOCK,
-            Write(3),
-            Write(1),
-            Flush,
-            BLOCK,
-            Write(3),
-            Write(1),
-            Flush,
-            BLOCK,
-            Write(1),
-            Write(1),
-            Flush,
-            BLOCK,
-            Open,
-        ],
-    ),
-    (Engine::Build, "ab\nc\n", usize::MAX, &[Open, BLOCK, BLOCK]),
-    (Engine::Build, "ab\nc", 3, &[Open, BLOCK, BLOCK, BLOCK]),
-    (
-        Engine::Ask,
-        "ab\nc\n",
-        usize::MAX,
-        &[
-            Open,
-            BLOCK,
-            Write(2),
-            Write(1),
-            Write(1),
-            Write(1),
-            Flush,
-            BLOCK,
-        ],
-    ),
-    (
-        Engine::Ask,
-        "ab\nc",
-        3,
-        &[
-            Open,
-            BLOCK,
-            Write(2),
-            Write(1),
-            Flush,
-            BLOCK,
-            BLOCK,
-            Write(1),
-            Write(1),
-            Flush,
-        ],
-    ),
+    run! {
+        Serve "i 1\nc 1\nw\n" by usize::MAX =>
+        BLOCK, Write(6), Write(5), Write(17), Flush, BLOCK
+    },
+    run! {
+        Serve "i 1\nc 1\nw\n" by 4 =>
+        BLOCK, Write(6), Flush, BLOCK, Write(5), Flush, BLOCK, Write(17), Flush, BLOCK
+    },
+    run! { Serve "i 1\nc 1" by 6 => BLOCK, Write(6), Flush, BLOCK, BLOCK, Write(5), Flush },
+    run! {
+        Serve "w\nc 1\nw\n" by 6 =>
+        BLOCK, Write(17), Write(6), Flush, BLOCK, Write(17), Flush, BLOCK
+    },
+    run! {
+        Keep "ab\nab\nc\n" by usize::MAX =>
+        Open, BLOCK, Write(2), Write(1), Write(1), Write(1), Flush, BLOCK, Open
+    },
+    run! {
+        Keep "ab\nc" by 3 =>
+        Open, BLOCK, Write(2), Write(1), Flush, BLOCK, BLOCK, Write(1), Write(1), Flush, Open
+    },
+    run! {
+        Keep "abc\nabc\nd\n" by 4 =>
+        Open, BLOCK, Write(3), Write(1), Flush, BLOCK, Write(3), Write(1), Flush, BLOCK, Write(1),
+        Write(1), Flush, BLOCK, Open
+    },
+    run! { Build "ab\nc\n" by usize::MAX => Open, BLOCK, BLOCK },
+    run! { Build "ab\nc" by 3 => Open, BLOCK, BLOCK, BLOCK },
+    run! {
+        Ask "ab\nc\n" by usize::MAX =>
+        Open, BLOCK, Write(2), Write(1), Write(1), Write(1), Flush, BLOCK
+    },
+    run! {
+        Ask "ab\nc" by 3 =>
+        Open, BLOCK, Write(2), Write(1), Flush, BLOCK, BLOCK, Write(1), Write(1), Flush
+    },
 ];

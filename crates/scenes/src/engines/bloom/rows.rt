@@ -53,67 +53,44 @@ pub(super) type Row = (usize, u32, &'static str, &'static str, Ended);
 /// A run that fails.
 pub(super) type Failing = (&'static str, Reading, Writing, &'static str, Fault, u64);
 
+// A row.
+macro_rules! run {
+    ($words:literal, $hashes:literal: $input:literal => $output:expr, $ended:expr) => {
+        ($words, $hashes, $input, $output, $ended)
+    };
+}
+
 /// The numbers of words and of hashes, and input; what is written, and how the run ends. The end of
 /// the input ends a line without its own.
 pub(super) const RUNS: &'static [Row] = &[
-    (
-        1,
-        3,
-        "i 1\nc 1\nw\n",
-        "false\ntrue\n0000000100100001\n",
-        WELL,
-    ),
-    (
-        1,
-        2,
-        "i 18446744073709551615\nw\n",
-        "false\n8000080000000000\n",
-        WELL,
-    ),
-    (1, 3, "i 1\nx\n", "false\n", Err(Fault::Line(2))),
-    (
-        2,
-        3,
-        "i 1\nw\n",
-        "false\n0000010000000001\n0000000000000001\n",
-        WELL,
-    ),
-    (1, 1, "", "", WELL),
-    (
-        1,
-        3,
-        "i 1\nz\nc 1\nw\n",
-        "false\nfalse\n0000000000000000\n",
-        WELL,
-    ),
-    (1, 2, "i 18446744073709551616\n", "", BAD),
-    (1, 2, "c 00000000000000000001\n", "false\n", WELL),
-    (1, 2, "c 000000000000000000001\n", "", BAD),
-    (1, 2, "i  1\n", "", BAD),
-    (1, 2, "i 1\r\n", "", BAD),
-    (1, 2, "\n", "", BAD),
-    (1, 3, "i 1\nc 1", "false\ntrue\n", WELL),
-    (1, 0, "i 1\nw\n", "false\n0000000000000001\n", WELL),
-    (
-        1,
-        2,
-        "i 1\nc 1\ni 18446744073709551615\nw\nc 00000000000000000001\nw",
-        "false\ntrue\nfalse\n8000080000100001\ntrue\n8000080000100001\n",
-        WELL,
-    ),
-    (
-        1,
-        2,
-        "i 1\nc 1\nw\nz\nc 1\nx\n",
-        "false\ntrue\n0000000000100001\nfalse\n",
-        Err(Fault::Line(6)),
-    ),
-    (1, 2, "i 1\nc 1\nw\n", ALL, WELL),
-    (1, 2, "", "", WELL),
-    (1, 2, "i 1\n", ONE, WELL),
-    (1, 2, "i 1", ONE, WELL),
-    (1, 2, "i 1\nc 1", TWO, WELL),
-    (1, 2, "i 1\nc", ONE, Err(Fault::Line(2))),
+    run! { 1, 3: "i 1\nc 1\nw\n" => "false\ntrue\n0000000100100001\n", WELL },
+    run! { 1, 2: "i 18446744073709551615\nw\n" => "false\n8000080000000000\n", WELL },
+    run! { 1, 3: "i 1\nx\n" => "false\n", Err(Fault::Line(2)) },
+    run! { 2, 3: "i 1\nw\n" => "false\n0000010000000001\n0000000000000001\n", WELL },
+    run! { 1, 1: "" => "", WELL },
+    run! { 1, 3: "i 1\nz\nc 1\nw\n" => "false\nfalse\n0000000000000000\n", WELL },
+    run! { 1, 2: "i 18446744073709551616\n" => "", BAD },
+    run! { 1, 2: "c 00000000000000000001\n" => "false\n", WELL },
+    run! { 1, 2: "c 000000000000000000001\n" => "", BAD },
+    run! { 1, 2: "i  1\n" => "", BAD },
+    run! { 1, 2: "i 1\r\n" => "", BAD },
+    run! { 1, 2: "\n" => "", BAD },
+    run! { 1, 3: "i 1\nc 1" => "false\ntrue\n", WELL },
+    run! { 1, 0: "i 1\nw\n" => "false\n0000000000000001\n", WELL },
+    run! {
+        1, 2: "i 1\nc 1\ni 18446744073709551615\nw\nc 00000000000000000001\nw" =>
+        "false\ntrue\nfalse\n8000080000100001\ntrue\n8000080000100001\n", WELL
+    },
+    run! {
+        1, 2: "i 1\nc 1\nw\nz\nc 1\nx\n" =>
+        "false\ntrue\n0000000000100001\nfalse\n", Err(Fault::Line(6))
+    },
+    run! { 1, 2: "i 1\nc 1\nw\n" => ALL, WELL },
+    run! { 1, 2: "" => "", WELL },
+    run! { 1, 2: "i 1\n" => ONE, WELL },
+    run! { 1, 2: "i 1" => ONE, WELL },
+    run! { 1, 2: "i 1\nc 1" => TWO, WELL },
+    run! { 1, 2: "i 1\nc" => ONE, Err(Fault::Line(2)) },
 ];
 
 // The replies to the first lines of a session: to one, to two, and to all three.

@@ -113,133 +113,51 @@ pub(crate) type Row = (
     &'static str,
 );
 
+// A row.
+macro_rules! act {
+    ($act:ident $input:expr, $reading:expr, $writing:expr => $written:expr, $stop:expr) => {
+        (Act::$act, $input, $reading, $writing, $written, $stop)
+    };
+}
+
 /// Acts over odd inputs and outputs.
 pub(crate) const ACTS: &'static [Row] = &[
-    (Act::Build, b"b\na", SLOW, NARROW, BOTH, ""),
-    (Act::Build, b"a\nb\n", FAILING, ROOMY, b"", UNREAD),
-    (Act::Ask, b"b\na\nc\na", SLOW, NARROW, b"a\na\n", ""),
-    (Act::Ask, b"a\na\na", FAILING, ROOMY, b"a\na\n", UNREAD),
-    (
-        Act::Ask,
-        b"a\nthe beginning waits",
-        HALVES,
-        ROOMY,
-        b"a\n",
-        "",
-    ),
-    (
-        Act::Ask,
-        b"a\na\n",
-        WHOLE,
-        FULL,
-        b"a\na",
-        "the keys can't be written: no space is left",
-    ),
-    (
-        Act::Ask,
-        b"a\na\n",
-        WHOLE,
-        STUCK,
-        b"a\na",
-        "the keys can't be written: write zero",
-    ),
-    (Act::Load, A, SLOW, NARROW, A, ""),
-    (Act::Load, A, FAILING, ROOMY, b"", UNREAD),
-    (Act::Load, BOTH, WHOLE, ROOMY, BOTH, ""),
-    (Act::Load, TEXT, SLOW, NARROW, A, ""),
-    (Act::Load, TEXT, FAILING, ROOMY, b"", UNREAD),
-    (Act::Load, KEYED_TEXT, SLOW, NARROW, KEYED, ""),
-    (Act::LoadText, KEYED, SLOW, NARROW, KEYED_TEXT, ""),
-    (Act::Load, LINES, SLOW, NARROW, LINES, ""),
-    (Act::Load, LINES, FAILING, ROOMY, b"", UNREAD),
-    (
-        Act::Load,
-        LINES,
-        WHOLE,
-        UNFLUSHED,
-        LINES,
-        "the filter can't be written: broken pipe",
-    ),
-    (
-        Act::Load,
-        CUT,
-        WHOLE,
-        ROOMY,
-        b"",
-        "odd: it holds no filter: the file is cut",
-    ),
-    (
-        Act::Load,
-        LONG,
-        WHOLE,
-        ROOMY,
-        b"",
-        "odd: it holds no filter: the file goes on after its last word",
-    ),
-    (
-        Act::Load,
-        CHANGED,
-        SLOW,
-        ROOMY,
-        b"",
-        "odd: it holds no filter: the seal is wrong: the file was changed",
-    ),
-    (
-        Act::Load,
-        b"fbloom\02",
-        SLOW,
-        ROOMY,
-        b"",
-        "odd: it holds no filter: a version of the file that isn't known",
-    ),
-    (Act::Put, b"", WHOLE, NARROW, A, ""),
-    (
-        Act::Put,
-        b"",
-        WHOLE,
-        FULL,
-        b"fbl",
-        "the filter can't be written: no space is left",
-    ),
-    (
-        Act::Put,
-        b"",
-        WHOLE,
-        STUCK,
-        b"fbl",
-        "the filter can't be written: write zero",
-    ),
-    (
-        Act::Put,
-        b"",
-        WHOLE,
-        UNFLUSHED,
-        A,
-        "the filter can't be written: broken pipe",
-    ),
-    (Act::PutText, b"", WHOLE, NARROW, TEXT, ""),
-    (
-        Act::PutText,
-        b"",
-        WHOLE,
-        FULL,
-        b"{\"b",
-        "the filter can't be written: no space is left",
-    ),
-    (
-        Act::PutText,
-        b"",
-        WHOLE,
-        STUCK,
-        b"{\"b",
-        "the filter can't be written: write zero",
-    ),
-    (
-        Act::PutText,
-        b"",
-        WHOLE,
-        UNFLUSHED,
-        TEXT,
-        "the filter can't be written: broken pipe",
-    ),
+    act! { Build b"b\na", SLOW, NARROW => BOTH, "" },
+    act! { Build b"a\nb\n", FAILING, ROOMY => b"", UNREAD },
+    act! { Ask b"b\na\nc\na", SLOW, NARROW => b"a\na\n", "" },
+    act! { Ask b"a\na\na", FAILING, ROOMY => b"a\na\n", UNREAD },
+    act! { Ask b"a\nthe beginning waits", HALVES, ROOMY => b"a\n", "" },
+    act! { Ask b"a\na\n", WHOLE, FULL => b"a\na", "the keys can't be written: no space is left" },
+    act! { Ask b"a\na\n", WHOLE, STUCK => b"a\na", "the keys can't be written: write zero" },
+    act! { Load A, SLOW, NARROW => A, "" },
+    act! { Load A, FAILING, ROOMY => b"", UNREAD },
+    act! { Load BOTH, WHOLE, ROOMY => BOTH, "" },
+    act! { Load TEXT, SLOW, NARROW => A, "" },
+    act! { Load TEXT, FAILING, ROOMY => b"", UNREAD },
+    act! { Load KEYED_TEXT, SLOW, NARROW => KEYED, "" },
+    act! { LoadText KEYED, SLOW, NARROW => KEYED_TEXT, "" },
+    act! { Load LINES, SLOW, NARROW => LINES, "" },
+    act! { Load LINES, FAILING, ROOMY => b"", UNREAD },
+    act! { Load LINES, WHOLE, UNFLUSHED => LINES, "the filter can't be written: broken pipe" },
+    act! { Load CUT, WHOLE, ROOMY => b"", "odd: it holds no filter: the file is cut" },
+    act! {
+        Load LONG, WHOLE, ROOMY =>
+        b"", "odd: it holds no filter: the file goes on after its last word"
+    },
+    act! {
+        Load CHANGED, SLOW, ROOMY =>
+        b"", "odd: it holds no filter: the seal is wrong: the file was changed"
+    },
+    act! {
+        Load b"fbloom\02", SLOW, ROOMY =>
+        b"", "odd: it holds no filter: a version of the file that isn't known"
+    },
+    act! { Put b"", WHOLE, NARROW => A, "" },
+    act! { Put b"", WHOLE, FULL => b"fbl", "the filter can't be written: no space is left" },
+    act! { Put b"", WHOLE, STUCK => b"fbl", "the filter can't be written: write zero" },
+    act! { Put b"", WHOLE, UNFLUSHED => A, "the filter can't be written: broken pipe" },
+    act! { PutText b"", WHOLE, NARROW => TEXT, "" },
+    act! { PutText b"", WHOLE, FULL => b"{\"b", "the filter can't be written: no space is left" },
+    act! { PutText b"", WHOLE, STUCK => b"{\"b", "the filter can't be written: write zero" },
+    act! { PutText b"", WHOLE, UNFLUSHED => TEXT, "the filter can't be written: broken pipe" },
 ];
