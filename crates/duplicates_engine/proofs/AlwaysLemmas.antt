@@ -25,7 +25,7 @@ module _ {V S : Type 0} (contains : V → ℕ → Bool) (hash_of : S → List �
     (old new : V) (line : List ℕ) (same : hasher_of new ≡ hasher_of old)
     (here : contains new (hash_of (hasher_of old) line) ≡ true)
     (stays : (hash : ℕ) → contains old hash ≡ true → contains new hash ≡ true) where
-  -- behind one more line, it has that too
+  -- behind one more line, the sieve has that line and all that it had
   pub hashed-more : (lines : List (List ℕ))
       → All (λ l. contains old (hash_of (hasher_of old) l) ≡ true) lines
       → All (λ l. contains new (hash_of (hasher_of new) l) ≡ true) (lines ++ line ∷ [])

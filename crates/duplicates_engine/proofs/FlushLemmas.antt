@@ -23,7 +23,7 @@ module _ {V : Type 0} (sieve : Ghosts V) (end : ℕ) (options : Options)
   all-flushed left result = IfOk-weaker result _ _ (λ total run.
       keeps-new (kept-flushed (kept-of run) flushed keeps) come left run.whole)
 
-  -- the lines before a fault are those before the one that comes of the flush, if one does
+  -- the lines of a run that ended early, behind a flush that may be the fault itself
   abbrev until-flushed : (first fault : Fault)
       → (run : KeepsUntil sieve end options come old new from to first)
       → IsWrittenAt fault (text_of end options run.lines run.replies) run.written
@@ -41,7 +41,7 @@ module _ {V : Type 0} (sieve : Ghosts V) (end : ℕ) (options : Options)
   }
 
   module _ {I : Type 0} (fails : I → I → ErrorKind → Type 0) (inputs : I) where
-    -- nor of one that ended early
+    -- a flush changes nothing of a run that ended early
     pub ends-flushed : {A : Type 0} (result : Result A Fault)
         → IfErr result (EndsEarly sieve fails end options come inputs old new from to)
         → IfErr result (EndsEarly sieve fails end options come inputs old new from flushed)

@@ -5,7 +5,7 @@ use Rattle.duplicates_engine.proofs.Common.{flat_map-append, prepend_known, IfSo
 use Rattle.lines.proofs.TakenLemmas.{TakesLinesBy, TakesLines-nil, TakesLines-more, IsReadWhole-from}
 
 -- of the inputs those that are done have the earlier lines, these lines were taken of the next,
--- which is open, and the rest come
+-- which is open, and the rest are still to come
 pub record StandsIn (end : ℕ) (inputs : List (List ℕ)) (left : Option (List ℕ))
     (coming : Option (List (List ℕ))) (earlier lines : List (List ℕ)) : Type 0 where
   pub done : List (List ℕ)

@@ -12,7 +12,7 @@ use Rattle.duplicates_engine.proofs.KeptLemmas.{HasKept, kept-none, kept-flushed
 
 module _ {V : Type 0} (sieve : Ghosts V) (end : ℕ) (options : Options)
     (come : Option (List (List ℕ))) (old : V) (from : Option (List ℕ)) where
-  -- half-way: these lines of the inputs were kept
+  -- half-way: lines were kept, which are those of the inputs so far
   pub record IsKeeping (waiting : Waiting) (rest : Option (List ℕ))
       (coming : Option (List (List ℕ))) (number : ℕ) (now : V) (to : Option (List ℕ))
       (total : Total) : Type 0

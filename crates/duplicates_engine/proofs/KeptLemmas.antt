@@ -33,7 +33,7 @@ module _ {V : Type 0} (sieve : Ghosts V) (end : ℕ) (options : Options) (old : 
 
 module _ {V : Type 0} {sieve : Ghosts V} {end : ℕ} {options : Options} {old : V}
     {from : Option (List ℕ)} {now : V} {to : Option (List ℕ)} {total : Total} where
-  -- the lines of a run that went well
+  -- what a run kept that went well
   abbrev pub kept-of : {come left : Option (List (List ℕ))}
       → KeepsNew sieve end options come left old now from to total
       → HasKept sieve end options old from now to total
@@ -47,7 +47,7 @@ module _ {V : Type 0} {sieve : Ghosts V} {end : ℕ} {options : Options} {old : 
   }
 
   module _ (kept : HasKept sieve end options old from now to total) where
-    -- a flush changes nothing
+    -- a flush changes nothing of what was kept
     abbrev pub kept-flushed : (flushed : Option (List ℕ)) → Keeps to flushed
         → HasKept sieve end options old from now flushed total
     kept-flushed flushed keeps = record {
@@ -59,7 +59,7 @@ module _ {V : Type 0} {sieve : Ghosts V} {end : ℕ} {options : Options} {old : 
       counts = kept.counts;
     }
 
-    -- these are all lines
+    -- where the lines that were kept are all lines, the run went well
     pub keeps-new : (come left : Option (List (List ℕ))) → AreAllRead end come left kept.lines
         → KeepsNew sieve end options come left old now from to total
     keeps-new come left whole = record {
@@ -72,7 +72,7 @@ module _ {V : Type 0} {sieve : Ghosts V} {end : ℕ} {options : Options} {old : 
       counts = kept.counts;
     }
 
-    -- a fault came behind them, by which all of their text was written
+    -- a fault came behind the lines that were kept, all of whose text was written
     pub ends-at : {I : Type 0} (fails : I → I → ErrorKind → Type 0)
         (come : Option (List (List ℕ))) (inputs : I) (fault : Fault)
         → IsReadAt end (limit_of options) fault come kept.lines
@@ -92,7 +92,7 @@ module _ {V : Type 0} {sieve : Ghosts V} {end : ℕ} {options : Options} {old : 
       caused = caused;
     }
 
-    -- the same of a fault that is no long line
+    -- a fault that isn't a long line came behind them, where they are the first ones
     pub ends-behind : {I : Type 0} (fails : I → I → ErrorKind → Type 0)
         (come : Option (List (List ℕ))) (inputs : I) (fault : Fault) → IsOfSystem fault
         → AreFirstRead end come kept.lines

@@ -1,5 +1,5 @@
 -- Longer lines, and the lines that aren't.
-use Rattle.std.proofs.Common.{◌≡◌, ℕ, ◌+◌, Bool, true, false, not, cond, List, ◌∷◌, ◌++◌, length, drop, take, ◌<◌, ◌≤◌, refl, ap, arith}
+use Rattle.std.proofs.Common.{◌≡◌, ℕ, ◌+◌, Bool, true, false, not, List, ◌∷◌, ◌++◌, length, drop, take, ◌<◌, ◌≤◌, refl, arith}
 use Rattle.std.proofs.lemmas.Bool.{lt-ltb, le-ltb}
 use Rattle.std.proofs.lemmas.List.{length-drop, length-take}
 use Rattle.std.proofs.lemmas.List.Elements.{filter-append}
@@ -24,15 +24,11 @@ short-append longest lines more = filter-append (λ line. not (is_longer longest
 
 pub short-long : (longest : ℕ) (line : List ℕ) (lines : List (List ℕ)) → longest < length line
     → short_lines longest (line ∷ lines) ≡ short_lines longest lines
-short-long longest line lines long =
-    ap (λ b. cond (not b) (line ∷ short_lines longest lines) (short_lines longest lines))
-    (longer-is longest line long)
+short-long longest line lines long = rw (longer-is longest line long) refl
 
 pub short-short : (longest : ℕ) (line : List ℕ) (lines : List (List ℕ)) → length line ≤ longest
     → short_lines longest (line ∷ lines) ≡ line ∷ short_lines longest lines
-short-short longest line lines short =
-    ap (λ b. cond (not b) (line ∷ short_lines longest lines) (short_lines longest lines))
-    (not-longer longest line short)
+short-short longest line lines short = rw (not-longer longest line short) refl
 
 -- a sieve of no span tells of every line before
 pub all-lines : AllLinesLaw

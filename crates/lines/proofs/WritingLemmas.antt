@@ -1,6 +1,6 @@
 -- Writing a text, as far as the writer takes it.
 use Rattle.std.proofs.Common.{◌≡◌, ℕ, ◌-◌, ◌≤◌, arith, length, length-drop, take_all, List, [], ◌++◌, take, drop, take-append-drop, Option, Result, Ok, Err, sym, ◌∙◌, ap, append_assoc, append-nil}
-use Rattle.std.specs.Prelude.{OnOk, OnErr}
+use Rattle.std.specs.Prelude.{OnErr}
 use Rattle.std.specs.Io.KnownBytes.{Appends}
 use Rattle.std.proofs.KnownBytes.{Appends-trans}
 use Rattle.lines.specs.Writing.{Begins, AppendsPart}

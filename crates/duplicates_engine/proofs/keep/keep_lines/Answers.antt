@@ -13,8 +13,8 @@ returns-in_err-input-clause-fault g c =
     let same : c.from_residual.result ≡ Err c.in_err-input.field-0.0 = search rules in
     let is = c.in_err-input.ensures.fault in
     rw same
-    (ends-behind (kept-none g.V.Sieve g.row.END c.args.options _ _) g.I.Inputs.fails _ _ _
-    (opening-system g.I.Inputs.fails _ _ _ is) (first-none g.row.END _)
+    (ends-behind (kept-none g.V.Sieve g.row.END c.args.options _ _) g.I.Inputs.fails _
+    c.open_next.new.inputs _ (opening-system g.I.Inputs.fails _ _ _ is) (first-none g.row.END _)
     (caused-first g.V.Sieve.refuses g.I.Inputs.fails g.row.END c.args.options.longest _ _ _ _ _
     is))
 
@@ -24,8 +24,8 @@ returns-in_err-opened-clause-fault g c =
     search rules in
     rw same
     (rw c.in_err-opened.ensures.fault
-    (ends-behind (kept-none g.V.Sieve g.row.END c.args.options _ _) g.I.Inputs.fails _ _ Memory tt
-    (first-none g.row.END _) tt))
+    (ends-behind (kept-none g.V.Sieve g.row.END c.args.options _ _) g.I.Inputs.fails _
+    c.open_next.new.inputs Memory tt (first-none g.row.END _) tt))
 
 pub returns-in_default-clause-all : goal.returns-in_default-clause-all
 returns-in_default-clause-all g c =
@@ -45,8 +45,8 @@ returns-in_err-next_step-clause-fault g c =
     let same : c.from_residual-in_err-next_step.result ≡ Err c.in_err-next_step.field-0.0 =
     search rules in
     rw same
-    (ends-step c.steps.invariant.keeping _ c.next_step.ensures.kept g.I.Inputs.fails _ _ _
-    c.in_err-next_step.ensures.fault)
+    (ends-step c.steps.invariant.keeping _ c.next_step.ensures.kept g.I.Inputs.fails c.steps.inputs
+    c.next_step.new.inputs _ c.in_err-next_step.ensures.fault)
 
 pub returns-in-End-clause-all : goal.returns-in-End-clause-all
 returns-in-End-clause-all g c =
@@ -71,13 +71,14 @@ steps-preserved-in-Opened g c = record {
 
 pub returns-in-TooLong-clause-fault : goal.returns-in-TooLong-clause-fault
 returns-in-TooLong-clause-fault g c =
-    ends-long c.steps.invariant.keeping _ c.next_step.ensures.kept g.I.Inputs.fails _
+    ends-long c.steps.invariant.keeping _ c.next_step.ensures.kept g.I.Inputs.fails
+    c.next_step.new.inputs
     (left_of c.next_step.new.opened.lines (g.I.Input.Read.remaining c.next_step.new.input)) _ _
     (rw c.in-TooLong.is at c.in_ok-next_step.ensures.step) c.saturating_add.ensures
 
 pub returns-clause-fault : goal.returns-clause-fault
 returns-clause-fault g c =
-    ends-behind c.steps.invariant.keeping.kept g.I.Inputs.fails _ _ _ tt
+    ends-behind c.steps.invariant.keeping.kept g.I.Inputs.fails _ c.steps.inputs _ tt
     (first-read c.steps.invariant.keeping.reading) (λ same. cc)
 
 pub returns-in_err-is_held-clause-fault : goal.returns-in_err-is_held-clause-fault
@@ -87,7 +88,7 @@ returns-in_err-is_held-clause-fault g c =
     let is = c.in_err-is_held.ensures.refused in
     rw (same, c.in_err-is_held.ensures.same)
     (ends-behind (kept_now c.steps.invariant.keeping _ c.next_step.ensures.kept)
-    g.I.Inputs.fails _ _ _ (refusal-system g.V.Sieve.refuses _ _ _ is)
+    g.I.Inputs.fails _ c.next_step.new.inputs _ (refusal-system g.V.Sieve.refuses _ _ _ is)
     (first-read c.steps.invariant.keeping.reading)
     (caused-line g.V.Sieve.refuses g.I.Inputs.fails g.row.END c.args.options.longest _ _ _ _ _ _
     (next-first c.steps.invariant.keeping _ c.next_step.ensures.kept c.next_step.new.opened.lines
@@ -103,8 +104,8 @@ returns-in_err-put_chosen-clause-fault g c =
     _ _ _ (rw c.in-Line.is at c.in_ok-next_step.ensures.step) c.line-line.ensures
     c.in_ok-is_held.ensures.sifted (g.met.V.Sieve.none _) c.in_ok-is_held.ensures.new
     c.in_ok-is_held.ensures.taken c.in_ok-is_held.ensures.span
-    (rw c.is_longer.ensures at c.count_line.ensures) g.I.Inputs.fails _ _ _
-    (rw c.in_err-put_chosen.was at c.put_chosen.ensures))
+    (rw c.is_longer.ensures at c.count_line.ensures) g.I.Inputs.fails
+    c.next_step.new.inputs _ _ (rw c.in_err-put_chosen.was at c.put_chosen.ensures))
 
 pub steps-preserved : goal.steps-preserved
 steps-preserved g c = record {
