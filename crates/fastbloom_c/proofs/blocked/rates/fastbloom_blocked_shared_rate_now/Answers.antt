@@ -1,19 +1,13 @@
-use Rattle.std.proofs.Common.{◌≡◌, ℕ, ◌/◌, max, arith, subst}
-use Rattle.bloom_blocked.specs.LineRates.{BoundsLoadedLines}
-use Rattle.fastbloom_c.specs.Passed.{vector_of}
+use Rattle.std.proofs.Common.{◌≡◌, max, arith}
 use Rattle.fastbloom_c.proofs.blocked.rates.fastbloom_blocked_shared_rate_now.Goals as goal
 
 pub returns-clause-bounds : goal.returns-clause-bounds
 returns-clause-bounds c told =
     let at_least_one : c.max.result ≡ max 1 c.args.num_hashes = omega (arith, c.max.ensures) in
-    let words = c.args.words in
-    let rate = c.rate_of-now in
-    let Claim : ℕ → Type 0 =
-    λ k. BoundsLoadedLines (vector_of words.at words.len) (words.len / 8) k rate.result in
+    let words = c.in-Some.ensures in
     record {
-      part = rate.result;
-      holds = subst Claim at_least_one
-          (rw (c.in-Some.ensures.at, c.in-Some.ensures.len) at rate.ensures);
+      part = c.rate_of-now.result;
+      holds = rw (words.at, words.len, at_least_one) at c.rate_of-now.ensures;
       is_low = c.low.ensures;
       is_high = c.high.ensures;
     }

@@ -1,12 +1,12 @@
-use Rattle.atomic_table.proofs.Names.{◌≡◌, ℕ, ◌+◌, ◌*◌, ◌^◌, ◌<◌, List, [], ◌∷◌, sym, refl, ap, arith, lit<, w64, named, Val, vint, vptr, SProp, Lft, Fml, ftrue, flft, sem, ‵, raw, ◌⊛◌, given, mean, at_ret, ◌$◌, ◌∵◌, !, qed, by, move, keep, drop, split, join, fsplit, fjoin, learn, use1, rewrite, feq_i, flt_i, stop, fld, load, lit, of_opd, bin, no_more, and_then, first, blocks, exec, Calls-last, returns, enter, alloc_all, pass_all, free_all, look_at, get, through, sets, lands_last, is, env, agg, sub, whole, look_in, tables, yes, RattleType, owns, types_at, plain, Ptr, block_ptr, ptr_val, nothing, Stays, stay_dropped, walk_of, Goes-dropped, fact, fact_use, heard, Is, shows, cell_at, peeks, block_of, count_of, at_block, via, guard_i, RefOf, usize, u64, shr_vals, shr_Tells, uint_vals, uint_Tells, unhide, hidden_shr, looks, shuts, lent_out, use0, fact_i, bit_and}
+use Rattle.atomic_table.proofs.Names.{ℕ, ◌+◌, ◌*◌, ◌^◌, ◌<◌, List, [], ◌∷◌, refl, ap, arith, lit<, w64, named, Val, vint, vptr, SProp, Fml, ftrue, flft, ‵, raw, ◌⊛◌, mean, at_ret, ◌$◌, ◌∵◌, !, qed, by, move, keep, split, join, fsplit, fjoin, use1, feq_i, flt_i, stop, fld, load, lit, of_opd, bin, no_more, and_then, first, blocks, exec, Calls-last, returns, enter, alloc_all, pass_all, free_all, look_at, get, through, sets, lands_last, is, env, agg, sub, whole, look_in, tables, yes, RattleType, owns, types_at, plain, Ptr, block_ptr, ptr_val, nothing, Stays, stay_dropped, walk_of, Goes-dropped, fact, heard, block_of, count_of, at_block, via, RefOf, usize, u64, shr_vals, shr_Tells, uint_vals, uint_Tells, use0, fact_i, bit_and}
 use Rattle.bloom_parts.specs.Made.{FoundByAnd, made_by_and}
 use Rattle.atomic_table.proofs.Walks.{proved, leaves}
 use Rattle.core.proofs.atomic.Steps.{tail}
 use Rattle.atomic_table.proofs.Calls.{fm, seq_cst, found, finds, ands}
-use Rattle.fastbloom_c.specs.Passed.{Reaches, vector_of, words_lie}
+use Rattle.fastbloom_c.specs.Passed.{vector_of}
 use Rattle.fastbloom_c.specs.contracts.passed_words.RawWords as C
-use Rattle.fastbloom_c.proofs.Fields.{words_of, Data, words_known, words_open}
-use Rattle.fastbloom_c.proofs.Steps.{reached, steps}
+use Rattle.fastbloom_c.proofs.Fields.{opens_words, closes_words}
+use Rattle.fastbloom_c.proofs.Steps.{steps}
 use Rattle.fastbloom_c.specs.contracts.passed_words.RawWords.fetch_and.{ended, clauses}
 use Rattle.fastbloom_c.specs.contracts.passed_words.RawWords.fetch_and.Key.{name as #self}
 use Rattle.fastbloom_c.proofs.passed_words.RawWords.fetch_and.Statement.{statement}
@@ -15,7 +15,7 @@ use Rattle.fastbloom_c.proofs.passed_words.RawWords.fetch_and.Code as code
 pub fetch_and_spec : {M : Type 1} → statement M
 fetch_and_spec 𝓤 𝓛 𝓜 𝓡 wired =
     let H = 𝓛.H in let 𝓣 = tables 𝓤 H 𝓜 𝓡 𝓡.env in let En = ended in let fn = code.function in
-    let Row : RattleType = C.the_row in let D : RattleType = Data in
+    let Row : RattleType = C.the_row in
     let self = RefOf (0 ∷ []) tt (plain (λ _. Row)) (λ _. tt) in
     let word = plain (λ _. usize) in let set = plain (λ _. u64) in
     let hs : Stays En.signature.params En.kept =
@@ -31,30 +31,21 @@ fetch_and_spec 𝓤 𝓛 𝓜 𝓡 wired =
     (λ κs. (shr_vals, (uint_vals w64, (uint_vals w64, tt))))
     (λ κs. (shr_Tells (named 0) κs.0 Row, (uint_Tells w64, (uint_Tells w64, tt))))
     (λ κs qs bounds a gh are.
-    let b : ℕ = a.0.ref_ptr.0 in let o : ℕ = a.0.ref_ptr.1 in let κ : Lft = κs.0 in
+    let b : ℕ = a.0.ref_ptr.0 in let o : ℕ = a.0.ref_ptr.1 in
     let t : Row.Denot = a.0.now in let p : Ptr = t.at in let n : ℕ = t.len in
     let i : ℕ = a.1.0 in let k : ℕ = a.1.1.0 in
-    let us : List Val = words_of p n ∷ [] in let F : Fml = words_lie p n in
     let y : (walk_of 𝓛 En hs c).Ghost =
     ((κs, qs, bounds, a, (vptr b o ∷ [], (vint w64 i ∷ [], (vint w64 k ∷ [], tt)))), gh) in
     let Post : Val → SProp 𝓤 = (walk_of 𝓛 En hs c).post y in
     qed 𝓛 (((‵ (flft κs.0 qs.0) ⊛ ‵ ftrue) ⊛ ‵ (owns (types_at En.signature.params κs) a y.0.4)) ∷
     raw (fact 𝓤 (i < n)) ∷ []) ∵
     move ! (1 ∷ []) $ heard ! (i < n) (λ asked. split ! $ split ! $ move ! (2 ∷ []) $ fsplit ! $
-    fsplit ! $ keep ! (1 ∷ 3 ∷ 4 ∷ []) $ nothing ! $ drop ! $
+    fsplit ! $ keep ! (1 ∷ 3 ∷ 4 ∷ []) $
     enter ! 𝓣.C 𝓣.Λ fn (vptr b o ∷ vint w64 i ∷ vint w64 k ∷ []) Post $
     alloc_all ! (λ l. pass_all ! refl
     ((tt, tt), ((tt, record { fits = are.1.0.1 }), ((tt, record { fits = are.1.1.0.1 }), tt))) $
     let Ev = env fn.locals l in
-    use1 𝓛 (‵ (hidden_shr D κ (p, (n, tt)) b o) ⊛ ‵ (base.Fml.fhide (C.the_lent t (block_ptr b o)
-    κ))) (lent_out 𝓛 C.struct C.the_codes C.the_heap C.the_lent κ t b o) $
-    split ! $ move ! (1 ∷ []) $ unhide ! $
-    use1 𝓛 (given (Reaches p n) (‵ F)) (fact_use 𝓤 _ (reached 𝓛 p n) (guard_i 𝓤 (Reaches p n) (sem
-    𝓛 F))) $ learn ! (λ at. move ! (1 ∷ 2 ∷ []) $
-    looks ! tt D (words_open 𝓛) (p, (n, tt)) b o (λ q' vs. move ! (1 ∷ []) $
-    peeks ! D (Is D) (shows 𝓛 D) (p, (n, tt)) vs (λ is-so. let ev : vs ≡ us = words_known p n vs
-    is-so in
-    rewrite ! 1 (λ (ws : List Val). ‵ (cell_at q' D.mir ws b o)) ev refl $
+    opens_words ! tt t b o (λ at q' vs fields.
     let inside : i < n = asked in let some : 0 < n = omega (arith, asked) in
     let room : n * 8 < 2 ^ 63 = at.1 in let small : i * 8 < 2 ^ 64 = omega arith in
     let e : ℕ = i * 8 + count_of p in first ! $ blocks ! $
@@ -62,8 +53,7 @@ fetch_and_spec 𝓤 𝓛 𝓜 𝓡 wired =
     refl (whole !))))) (ap ptr_val (at_block p (at.0 some)))) refl (tt, tt) $
     sets ! (bin ! (get ! refl) (lit ! tt) (record { fits = small })) refl
     (tt, record { fits = small }) $ sets ! (bin ! (get ! refl) (get ! refl) tt) refl (tt, tt) $
-    rewrite ! 1 (λ (ws : List Val). ‵ (cell_at q' D.mir ws b o)) (sym ev) refl $
-    move ! (1 ∷ 0 ∷ 2 ∷ []) $ shuts ! tt D q' (p, (n, tt)) vs b o $
+    closes_words ! tt t b o fields $
     let out : ℕ → Fml = λ _. ftrue in move ! (2 ∷ []) $
     use1 𝓛 (raw (𝓣.C _ (vptr (block_of p) e ∷ vint w64 k ∷ seq_cst ∷ []) (λ u. mean 𝓛 (found out
     u))))
@@ -82,4 +72,4 @@ fetch_and_spec 𝓤 𝓛 𝓜 𝓡 wired =
     flt_i ! m (2 ^ 64) fits $ feq_i ! (List Val) (vint w64 m ∷ []) (vint w64 m ∷ []) refl $
     fjoin ! $
     returns ! (look_at ! 0 refl) $ free_all ! refl $ keep ! (3 ∷ 2 ∷ 0 ∷ 1 ∷ []) $
-    by ! (leaves 𝓛 En hs c y (vint w64 m) m (tt, (tt, (tt, tt))) (tt, (tt, (tt, tt))))))))))))
+    by ! (leaves 𝓛 En hs c y (vint w64 m) m (tt, (tt, (tt, tt))) (tt, (tt, (tt, tt))))))))))
