@@ -77,7 +77,8 @@ AreShort longest lines = All (λ line. length line ≤ longest) lines
 -- what the next line came to
 abbrev pub NextLineBy : ℕ → ℕ → Option (List ℕ) → Option (List ℕ) → List ℕ → Next → Type 0
 NextLineBy end longest old new line End = Ends old new
-NextLineBy end longest old new line Line = TakesShortBy end longest old new line
+NextLineBy end longest old new line Line =
+    record { takes : TakesLineBy end old new line; short : length line ≤ longest }
 NextLineBy end longest old new line TooLong = TakesLongBy end longest old new
 
 -- these are all lines of the bytes, and the reader is at its end
