@@ -5,8 +5,8 @@ use Rattle.bloom_steps.proofs.RunLemmas.RunningCalls.{newest-call, newest_kept, 
 use Rattle.bloom_steps.proofs.RunLemmas.PartyRecords.{did-get, did-length, own_of_record, record_of_own}
 use Rattle.bloom_steps.proofs.RunLemmas.PlacedSteps.{Holds, IsPlacedAt, placed}
 
--- the call of the record at an index, among the records of its party, with the record's place in
--- it; where the call is only begun it is the newest
+-- the call of the record at an index, among its party's records, and the record's place in it;
+-- where the call is only begun it is the newest
 pub record OfCall (w k p : ℕ) (rs : List Record) (i : ℕ) : Type 0 where
   pub earlier : List Record
   pub call : Call
