@@ -26,8 +26,8 @@ pub words_open : {M : Type 1} {𝓤 : Ura M} (𝓛 : Logic 𝓤) → Opens 𝓛 
 words_open {M} {𝓤 = 𝓤} 𝓛 = (Struct-Copied 𝓛 (shape C.the_type) (refl, (refl, tt))
     (RawPtr-copy.copied M 𝓤 𝓛, (usize-copy.copied M 𝓤 𝓛, tt))).opens
 
-module _ {M : Type 1} {𝓤 : Ura M} {𝓛 : Logic 𝓤} {K : Type 0} {Γ : List (Item 𝓤)} {G : Goal 𝓤 𝓛.H}
-    {κ : Lft} {q : Share} where
+module _ {M : Type 1} {𝓤 : Ura M} {𝓛 : Logic 𝓤} {K : Type 0} {Γ : List (Item 𝓤)}
+    {G : Goal 𝓤 𝓛.H} {κ : Lft} {q : Share} where
   -- a borrow of words gives their fields, and what C promised of the words themselves
   pub opens_words : K → Soaks G → (t : C.the_row.Denot) (b o : ℕ)
       → (Reaches t.at t.len → (q' : Share) (vs : List Val) → Is Data (t.at, (t.len, tt)) vs
