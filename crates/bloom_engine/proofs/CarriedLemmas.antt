@@ -7,7 +7,7 @@ use Rattle.bloom_parts.specs.Operations as command
 use Rattle.bloom_parts.specs.Operations.{Operation, state_after}
 use Rattle.bloom_plain.specs.Replies.{CarriesOut, replies_after}
 use Rattle.bloom_engine.specs.Lines.{operation_of_line, operations}
-use Rattle.bloom_engine.specs.Texts.{reply_text, words_text, words_with_content, words_after_lines, text_after, text_of}
+use Rattle.bloom_engine.specs.Texts.{reply_text, words_text, words_with_content, words_after_lines, text_after}
 
 module _ (w k : ℕ) (A : ℕ → Bool) where
   -- the first line's text, and then a text of which two parts are known
@@ -45,16 +45,16 @@ module _ (w k : ℕ) (A : ℕ → Bool) where
         (ap (λ e. text_after w k A e (line ∷ []) reply) (append_assoc earlier (Words ∷ []) lines))
 
 -- a line's text speaks of the content before it, whichever lines made it
-text_of-line : (w k : ℕ) (A : ℕ → Bool) (lines : List Line) (j : ℕ) (B : ℕ
+text_after-line : (w k : ℕ) (A : ℕ → Bool) (lines : List Line) (j : ℕ) (B : ℕ
     → Bool) (line : Line) (reply : List Bool)
     → B ≡ state_after (64 * w) k A (operations lines)
-    → text_of w j B (line ∷ []) reply ≡ text_after w k A lines (line ∷ []) reply
-text_of-line w k A lines j B (Insert hash) [] same = refl
-text_of-line w k A lines j B (Insert hash) (r ∷ rs) same = refl
-text_of-line w k A lines j B (Contains hash) [] same = refl
-text_of-line w k A lines j B (Contains hash) (r ∷ rs) same = refl
-text_of-line w k A lines j B Clear reply same = refl
-text_of-line w k A lines j B Words reply same =
+    → text_after w j B [] (line ∷ []) reply ≡ text_after w k A lines (line ∷ []) reply
+text_after-line w k A lines j B (Insert hash) [] same = refl
+text_after-line w k A lines j B (Insert hash) (r ∷ rs) same = refl
+text_after-line w k A lines j B (Contains hash) [] same = refl
+text_after-line w k A lines j B (Contains hash) (r ∷ rs) same = refl
+text_after-line w k A lines j B Clear reply same = refl
+text_after-line w k A lines j B Words reply same =
     ap (λ C. words_text (words_with_content C w) ++ []) same
 
 -- no line was carried out yet
@@ -91,9 +91,9 @@ module _ {S : Type 0} (joins : JoinedListsLaw S) (f g h : Filter S) (o p q : Opt
     (lines : List Line) (line : Line)
     (so_far : Carried f g o p lines) (one : Carried g h p q (line ∷ [])) where
   -- its text comes after that of the lines
-  text-more : text_of (length f.words) f.hashes (content f.words) lines so_far.given
-      ++ text_of (length g.words) g.hashes (content g.words) (line ∷ []) one.given
-      ≡ text_of (length f.words) f.hashes (content f.words) (lines ++ line ∷ [])
+  text-more : text_after (length f.words) f.hashes (content f.words) [] lines so_far.given
+      ++ text_after (length g.words) g.hashes (content g.words) [] (line ∷ []) one.given
+      ≡ text_after (length f.words) f.hashes (content f.words) [] (lines ++ line ∷ [])
       (so_far.given ++ one.given)
   text-more =
       let w = length f.words in
@@ -101,14 +101,15 @@ module _ {S : Type 0} (joins : JoinedListsLaw S) (f g h : Filter S) (o p q : Opt
       let A = content f.words in
       let B : content g.words ≡ state_after (64 * w) k A (operations lines) =
       λ i p. so_far.filter.bits p i in
-      ap (λ t. text_of w k A lines so_far.given ++ t)
-      (ap (λ n. text_of n g.hashes (content g.words) (line ∷ []) one.given)
+      ap (λ t. text_after w k A [] lines so_far.given ++ t)
+      (ap (λ n. text_after n g.hashes (content g.words) [] (line ∷ []) one.given)
       (sym so_far.filter.shape.words)
-      ∙ text_of-line w k A lines g.hashes (content g.words) line one.given B)
-      ∙ ap (λ r. text_of w k A lines r ++ text_after w k A lines (line ∷ []) one.given)
+      ∙ text_after-line w k A lines g.hashes (content g.words) line one.given B)
+      ∙ ap (λ r. text_after w k A [] lines r ++ text_after w k A lines (line ∷ []) one.given)
       so_far.filter.answers
       ∙ sym (text_after-more w k A line one.given [] [] lines)
-      ∙ ap (λ r. text_of w k A (lines ++ line ∷ []) (r ++ one.given)) (sym so_far.filter.answers)
+      ∙ ap (λ r. text_after w k A [] (lines ++ line ∷ []) (r ++ one.given))
+      (sym so_far.filter.answers)
 
   -- what the line did comes after what the lines did
   pub Carried-more : Carried f h o q (lines ++ line ∷ [])

@@ -4,7 +4,7 @@ pub use Rattle.bloom_engine.specs.Lines.{longest_line, operations}
 unfoldable pub use Rattle.bloom_engine.specs.Lines.{line_of, number_of}
 pub use Rattle.bloom_engine.specs.Reading.{NextCommand}
 pub use Rattle.bloom_engine.specs.Served.{Applied, AreAllGood, AreFirstGood, Carried, IsReadUpTo, ServedAll, ServedBefore, ServedSome, ServedUpTo}
-pub use Rattle.bloom_engine.specs.Texts.{text_of, words_text}
+pub use Rattle.bloom_engine.specs.Texts.{text_after, words_text}
 unfoldable pub use Rattle.bloom_engine.specs.Texts.{hex_text, word_with_bits, words_with_content}
 pub use Rattle.bloom_engine.specs.declared.engine.line.Line.{Line}
 pub use Rattle.bloom_engine.specs.declared.engine.line.Line.TheVariants.{Clear, Contains, Insert, Words}

@@ -1,7 +1,7 @@
 -- Lines, texts, arguments and statuses at values from outside: a wrong definition fails here. The
--- calls on lines tell nothing without `line_of` and `text_of`, which no clause of theirs names.
+-- calls on lines tell nothing without `line_of` and `text_after`, which no clause of theirs names.
 use Rattle.std.proofs.Common.{◌≡◌, false, [], ◌∷◌, length, map, replicate, Some, None, refl}
-use Rattle.bloom_engine.proofs.Common.{codes, content, positions, Insert, Contains, Clear, Words, number_of, line_of, longest_line, hex_text, word_with_bits, words_with_content, text_of}
+use Rattle.bloom_engine.proofs.Common.{codes, content, positions, Insert, Contains, Clear, Words, number_of, line_of, longest_line, hex_text, word_with_bits, words_with_content, text_after}
 use Rattle.bloom_parts.specs.Chain.{chain}
 use Rattle.bloom_engine.specs.declared.fault.Fault.TheVariants as fault
 use Rattle.bloom_engine.specs.Arguments.{asked_of}
@@ -23,13 +23,13 @@ unfolding line_of number_of
 line_of-cases = (refl, refl, refl)
 
 -- the replies and the words of five lines, and of two words the first first, in lower case
-text_of-cases : (text_of 1 3 (content (0 ∷ []))
+text_after-cases : (text_after 1 3 (content (0 ∷ [])) []
     (Insert 1 ∷ Words ∷ Clear ∷ Words ∷ Contains 1 ∷ []) (false ∷ false ∷ [])
     ≡ codes "false\n0000000100100001\n0000000000000000\nfalse\n")
-    × (text_of 2 3 (content (0x89ab_cdef ∷ 5 ∷ [])) (Words ∷ []) []
+    × (text_after 2 3 (content (0x89ab_cdef ∷ 5 ∷ [])) [] (Words ∷ []) []
     ≡ codes "0000000089abcdef\n0000000000000005\n")
 unfolding content positions chain word_with_bits words_with_content hex_text
-text_of-cases = (refl, refl)
+text_after-cases = (refl, refl)
 
 -- two numbers are arguments, from one word and no hash to 2^20 words and 2^32 - 1 hashes; no word,
 -- one word and three words ask for nothing, nor what is no number or past the limits

@@ -9,7 +9,7 @@ use Rattle.bloom_engine.specs.declared.engine.line.Line.{Line}
 use Rattle.lines.specs.Lines.{lines_of}
 use Rattle.lines.specs.Reading.{IsReadFromBy}
 use Rattle.bloom_engine.specs.Lines.{line_of, longest_line, operations}
-use Rattle.bloom_engine.specs.Texts.{text_of}
+use Rattle.bloom_engine.specs.Texts.{text_after}
 
 -- these lines' commands were carried out on the filter, with some replies
 abbrev pub Applied : {S : Type 0} → Filter S → Filter S → List Line → Type 0
@@ -20,7 +20,8 @@ pub record Carried {S : Type 0} (old new : Filter S) (from to : Option (List ℕ
     (lines : List Line) : Type 0 where
   pub given : List Bool
   pub filter : CarriesOut old (operations lines) new given
-  pub text : Appends from to (text_of (length old.words) old.hashes (content old.words) lines given)
+  pub text : Appends from to
+      (text_after (length old.words) old.hashes (content old.words) [] lines given)
 
 -- each line of these bytes is good, and the reader is at its end
 pub record AreAllGood (bytes : List ℕ) (left : Option (List ℕ)) (lines : List Line) : Type 0 where

@@ -37,7 +37,8 @@ words_with_content A (suc w) =
 abbrev pub words_after_lines : ℕ → ℕ → (ℕ → Bool) → List Line → List ℕ
 words_after_lines w k A lines = words_with_content (state_after (64 * w) k A (operations lines)) w
 
--- what lines write that come after earlier ones, where the filter gives these replies
+-- the text of good lines that come after earlier ones: each reply, and the words at each `w`, where
+-- the filter gives these replies
 abbrev pub text_after : ℕ → ℕ → (ℕ → Bool) → List Line → List Line → List Bool → List ℕ
 text_after w k A earlier [] given = []
 text_after w k A earlier (Insert hash ∷ lines) [] = []
@@ -51,7 +52,3 @@ text_after w k A earlier (Clear ∷ lines) given =
 text_after w k A earlier (Words ∷ lines) given =
     words_text (words_after_lines w k A earlier)
     ++ text_after w k A (earlier ++ Words ∷ []) lines given
-
--- the text of good lines: each reply, and the words at each `w`
-abbrev pub text_of : ℕ → ℕ → (ℕ → Bool) → List Line → List Bool → List ℕ
-text_of w k A lines given = text_after w k A [] lines given
