@@ -75,8 +75,21 @@ fn call_by_rate(rt: &HostRuntime, items: usize) -> Result<(), FilterError> {
     tell(rt, "expected_items", filter.as_slice().len(), 0);
     let filter = BlockedBloomFilter::with_false_pos(rate).expected_items(alloc, items)?;
     tell(rt, "expected_items", filter.as_slice().len(), 0);
+    let filter = AtomicBloomFilter::with_false_pos(rate).expected_items(alloc, items)?;
+    tell(rt, "expected_items", filter.num_bits() / 64, 0);
+    Ok(())
+}
+
+// Those that insert this many items.
+fn call_with_items(rt: &HostRuntime, items: usize) -> Result<(), FilterError> {
+    let alloc = rt.alloc();
+    let rate = Rate::new(1, 1000)?;
     let numbers = spread_from(alloc, 0, items as u64)?;
     begin(rt);
+    let filter = BloomFilter::with_false_pos(rate).items(alloc, numbers.iter())?;
+    tell(rt, "items", filter.as_slice().len(), 0);
+    let filter = BlockedBloomFilter::with_false_pos(rate).items(alloc, numbers.iter())?;
+    tell(rt, "items", filter.as_slice().len(), 0);
     let filter = AtomicBloomFilter::with_false_pos(rate).items(alloc, numbers.iter())?;
     tell(rt, "items", filter.num_bits() / 64, 0);
     Ok(())
@@ -110,14 +123,16 @@ fn call_on_files(rt: &HostRuntime, words: usize) -> Result<(), FilterError> {
     }
 }
 
+// The room of a reader doubles: of 66,000 words it asks for nearly the most that the page tells.
 #[test]
 fn calls_on_a_filter_are_made_at_two_sizes(rt: HostRuntime) {
-    for words in [600, 100_000] {
+    for words in [600, 66_000] {
         begin(&rt);
         assert!(rt; call_plain(&rt, words).is_ok());
         assert!(rt; call_shared(&rt, words).is_ok());
         assert!(rt; call_blocked(&rt, words).is_ok());
         assert!(rt; call_on_files(&rt, words).is_ok());
         assert!(rt; call_by_rate(&rt, words).is_ok());
+        assert!(rt; call_with_items(&rt, words).is_ok());
     }
 }

@@ -223,12 +223,13 @@ impl Gate for Yielding {
     }
 }
 
-// Whether a worker sets the three positions of a hash among 4,099 words.
+// Whether one worker sets the positions of a thousand hashes among 4,099 words.
 fn is_set_behind<R: Threads>(rt: &R, alloc: Global) -> Result<bool, FilterError> {
     let gate = Arc::new(alloc, Yielding)?;
-    let parts = parts_of(alloc, &[&[1]])?;
-    match fill(rt, alloc, gate, Shape::new(64 * 4099, 3)?, parts) {
-        Ok(filter) => Ok(filter.count_ones() == 3),
+    let row = (1, 1000, 64 * 4099);
+    let shape = Shape::new(row.2, 7)?;
+    match fill(rt, alloc, gate, shape, many_parts(alloc, &row)?) {
+        Ok(filter) => is_made_alone(alloc, &row, &filter),
         Err(refusal) => Err(refusal),
     }
 }

@@ -28,11 +28,11 @@ fn run_over(rt: &HostRuntime, words: &[u64; 64], number: usize) -> Result<(), Fi
     Ok(())
 }
 
-// A line of this many bytes, where a line may have as many.
+// A line of this many bytes, where a line may have ten times as many.
 fn read_line(rt: &HostRuntime, length: usize) -> io::Result<bool> {
     let text = vec![in rt.alloc(); b'a'; length]?;
     begin(rt);
-    let mut lines = LineReader::new(rt.alloc(), length)?;
+    let mut lines = LineReader::new(rt.alloc(), length.saturating_mul(10))?;
     tell(rt, "LineReader::new", 0, length);
     let mut rest = text.as_slice();
     let next = lines.next_line(&mut rest)?;
@@ -46,7 +46,7 @@ fn lists_runs_and_lines_are_of_two_sizes(rt: HostRuntime) {
     for number in [8, 1000] {
         assert!(rt; run_over(&rt, &[0; 64], number).is_ok());
     }
-    for length in [70_000, 600_000] {
+    for length in [70_000, 9_000_000] {
         assert!(rt; matches!(read_line(&rt, length), Ok(true)));
     }
 }

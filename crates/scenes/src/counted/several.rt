@@ -64,7 +64,7 @@ fn seat(rt: &HostRuntime, words: usize, passes: usize) -> Result<(), FilterError
     Ok(())
 }
 
-// A filter of this many words that workers fill, each with one hash.
+// A filter of this many words that workers fill, each with a thousand hashes.
 fn fill_by<R: Threads>(
     rt: &HostRuntime,
     threads: &R,
@@ -72,7 +72,7 @@ fn fill_by<R: Threads>(
     workers: u64,
 ) -> Result<(), FilterError> {
     let bits = words.saturating_mul(64);
-    let parts = many_parts(rt.alloc(), &(workers, 1, bits))?;
+    let parts = many_parts(rt.alloc(), &(workers, 1000, bits))?;
     let (gate, seen) = gate_of(rt.alloc(), workers as usize)?;
     begin(rt);
     drop(fill(threads, rt.alloc(), gate, Shape::new(bits, 3)?, parts)?);
